@@ -1,0 +1,62 @@
+use borrow.Author.Needs.{needs}
+use Rattle.alignment.proofs.bits_number.Statement.{statement}
+use Rattle.alignment.proofs.bits_number.Tie as tie
+use Rattle.alignment.proofs.bits_number.Reads as reads
+use Rattle.alignment.proofs.bits_number.Lts as lts
+use Rattle.alignment.proofs.is_due.Reads as is-due-reads
+use Rattle.alignment.proofs.sound_number.Reads as sound-number-reads
+
+-- src/lib.rt:60:12
+sound-number-requires : tie.Need-sound-number-requires
+sound-number-requires c κs = search needs
+
+-- src/lib.rt:61:9
+returns : tie.Need-returns
+returns c = ?
+
+-- src/lib.rt:63:8
+sub-if2 : tie.Need-sub-if2
+sub-if2 c = ?
+
+-- src/lib.rt:64:9
+returns-2 : tie.Need-returns-2
+returns-2 c = ?
+
+-- src/lib.rt:67:9
+returns-3 : tie.Need-returns-3
+returns-3 c = ?
+
+-- src/lib.rt:69:15
+add-is-due : tie.Need-add-is-due
+add-is-due c = search needs
+
+-- src/lib.rt:69:8
+is-due-requires : tie.Need-is-due-requires
+is-due-requires c κs = search needs
+
+-- src/lib.rt:71:13
+returns-4 : tie.Need-returns-4
+returns-4 c = ?
+
+-- src/lib.rt:57:1
+returns-5 : tie.Need-returns-5
+returns-5 c = ?
+
+-- src/lib.rt:57:1
+returns-6 : tie.Need-returns-6
+returns-6 c = ?
+
+pub bits-number-spec : {M : Type 1} → statement M
+bits-number-spec =
+    tie.close
+    (tie.spec
+    sound-number-requires
+    returns
+    sub-if2
+    returns-2
+    returns-3
+    add-is-due
+    is-due-requires
+    returns-4
+    returns-5
+    returns-6)

@@ -1,0 +1,39 @@
+use borrow.Author.Needs.{needs}
+use Rattle.alignment.proofs.bytes_number.Statement.{statement}
+use Rattle.alignment.proofs.bytes_number.Tie as tie
+use Rattle.alignment.proofs.bytes_number.Reads as reads
+use Rattle.alignment.proofs.bytes_number.Lts as lts
+use Rattle.alignment.proofs.sound_number.Reads as sound-number-reads
+
+-- src/lib.rt:81:12
+sound-number-requires : tie.Need-sound-number-requires
+sound-number-requires c κs = search needs
+
+-- src/lib.rt:82:9
+returns : tie.Need-returns
+returns c = ?
+
+-- src/lib.rt:85:9
+returns-2 : tie.Need-returns-2
+returns-2 c = ?
+
+-- src/lib.rt:88:9
+returns-3 : tie.Need-returns-3
+returns-3 c = ?
+
+-- src/lib.rt:91:9
+returns-4 : tie.Need-returns-4
+returns-4 c = ?
+
+-- src/lib.rt:94:9
+returns-5 : tie.Need-returns-5
+returns-5 c = ?
+
+-- src/lib.rt:78:1
+returns-6 : tie.Need-returns-6
+returns-6 c = ?
+
+pub bytes-number-spec : {M : Type 1} → statement M
+bytes-number-spec =
+    tie.close
+    (tie.spec sound-number-requires returns returns-2 returns-3 returns-4 returns-5 returns-6)

@@ -1,0 +1,29 @@
+use borrow.Author.Needs.{needs}
+use Rattle.alignment.proofs.dyn_number.Statement.{statement}
+use Rattle.alignment.proofs.dyn_number.Tie as tie
+use Rattle.alignment.proofs.dyn_number.Reads as reads
+use Rattle.alignment.proofs.dyn_number.Lts as lts
+use Rattle.alignment.proofs.sound_number.Reads as sound-number-reads
+
+-- src/lib.rt:103:12
+sound-number-requires : tie.Need-sound-number-requires
+sound-number-requires c κs = search needs
+
+-- src/lib.rt:104:9
+returns : tie.Need-returns
+returns c = ?
+
+-- src/lib.rt:107:9
+returns-2 : tie.Need-returns-2
+returns-2 c = ?
+
+-- src/lib.rt:110:9
+returns-3 : tie.Need-returns-3
+returns-3 c = ?
+
+-- src/lib.rt:100:1
+returns-4 : tie.Need-returns-4
+returns-4 c = ?
+
+pub dyn-number-spec : {M : Type 1} → statement M
+dyn-number-spec = tie.close (tie.spec sound-number-requires returns returns-2 returns-3 returns-4)

@@ -1,0 +1,25 @@
+use borrow.Author.Needs.{needs}
+use Rattle.alignment.proofs.end_number.Statement.{statement}
+use Rattle.alignment.proofs.end_number.Tie as tie
+use Rattle.alignment.proofs.end_number.Reads as reads
+use Rattle.alignment.proofs.end_number.Lts as lts
+use Rattle.alignment.proofs.sound_number.Reads as sound-number-reads
+
+-- src/lib.rt:119:12
+sound-number-requires : tie.Need-sound-number-requires
+sound-number-requires c κs = search needs
+
+-- src/lib.rt:120:9
+returns : tie.Need-returns
+returns c = ?
+
+-- src/lib.rt:123:9
+returns-2 : tie.Need-returns-2
+returns-2 c = ?
+
+-- src/lib.rt:116:1
+returns-3 : tie.Need-returns-3
+returns-3 c = ?
+
+pub end-number-spec : {M : Type 1} → statement M
+end-number-spec = tie.close (tie.spec sound-number-requires returns returns-2 returns-3)

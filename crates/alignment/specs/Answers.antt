@@ -1,0 +1,19 @@
+-- What the aligner's functions answer, in the terms of the definitions.
+use mathlib.Core.List.{List}
+use Prim.Native.Nat.{ℕ}
+use lib.Dec.{eqb}
+use Rattle.meaning.specs.declared.Aligner.{Aligner}
+use Rattle.meaning.specs.Choice.{pick}
+use Rattle.meaning.specs.Alignment as meaning
+use Rattle.alignment.specs.declared.Called as answer
+use Rattle.alignment.specs.declared.Ended.{Ended}
+
+-- the answer of a call with the words that it left
+abbrev pub called : answer.Called → List ℕ → List ℕ → meaning.Called
+called r ps cs = record { number = r .number; left = meaning.world (r .state) ps cs }
+
+-- the end answers the chunk count, 0 when refused
+unfoldable pub ended : Aligner → List ℕ → List ℕ → Ended
+ended a ps cs =
+    let n = meaning.end-number (meaning.world a ps cs) in
+    record { number = n; chunks = pick (eqb n 0) (a .chunks) 0 }

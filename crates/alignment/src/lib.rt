@@ -1,0 +1,229 @@
+// The byte aligner's core (alignment.rs, `ByteAligner`): a state by value over two lent tables of words.
+ghost use mathlib.Core.Path.{_≡_};
+ghost use mathlib.Core.List.{[], _∷_};
+ghost use Rattle.meaning.specs.Tables.{put};
+ghost use Rattle.meaning.specs.Alignment.{world, sound, due, bits-number, bytes-number, dyn-number, end-number, call, add-bitfield, add-bytes, add-dyn-bytes};
+ghost use Rattle.alignment.specs.Answers.{called, ended};
+use meaning::Aligner;
+
+// What a call answers: the refusal number, 0 when accepted, and the state after it.
+pub struct Called {
+    pub number: u64,
+    pub state: Aligner,
+}
+
+// What the end answers: the refusal number and the chunk count, 0 when refused.
+pub struct Ended {
+    pub number: u64,
+    pub chunks: usize,
+}
+
+// 18 where the state contradicts itself or its tables, else 0.
+pub fn sound_number(a: Aligner, placed: &[u64], chunks: &[u64]) -> u64
+    ensures { λ r. ⌜ r ≡ sound (world a (now (placed .entry)) (now (chunks .entry))) ⌝ }
+{
+    if 63 < a.width {
+        return 18;
+    }
+    if a.placed < a.start {
+        return 18;
+    }
+    if placed.len() / 3 < a.placed {
+        return 18;
+    }
+    if chunks.len() / 5 < a.chunks {
+        return 18;
+    }
+    if a.start < a.placed {
+        return 0;
+    }
+    if 0 < a.width {
+        return 18;
+    }
+    0
+}
+
+// Whether a total becomes a chunk.
+pub fn is_due(total: u64) -> bool
+    ensures { λ r. ⌜ r ≡ due total ⌝ }
+{
+    if total == 0 {
+        return false;
+    }
+    total % 8 == 0
+}
+
+// The number of a bit field; the test of the total never wraps.
+pub fn bits_number(a: Aligner, placed: &[u64], chunks: &[u64], width: u64) -> u64
+    ensures { λ r. ⌜ r ≡ bits-number width (world a (now (placed .entry)) (now (chunks .entry))) ⌝ }
+{
+    if 0 < sound_number(a, placed, chunks) {
+        return 18;
+    }
+    if Aligner::MAX_CHUNK_WIDTH - a.width < width {
+        return 12;
+    }
+    if placed.len() / 3 <= a.placed {
+        return 13;
+    }
+    if is_due(a.width + width) {
+        if chunks.len() / 5 <= a.chunks {
+            return 13;
+        }
+    }
+    0
+}
+
+// The number of bytes of a known width.
+pub fn bytes_number(a: Aligner, placed: &[u64], chunks: &[u64], width: u64) -> u64
+    ensures { λ r. ⌜ r ≡ bytes-number width (world a (now (placed .entry)) (now (chunks .entry))) ⌝ }
+{
+    if 0 < sound_number(a, placed, chunks) {
+        return 18;
+    }
+    if a.start < a.placed {
+        return 10;
+    }
+    if 0 < width % 8 {
+        return 11;
+    }
+    if Aligner::MAX_CHUNK_WIDTH < width {
+        return 12;
+    }
+    if chunks.len() / 5 <= a.chunks {
+        return 13;
+    }
+    0
+}
+
+// The number of dynamic bytes.
+pub fn dyn_number(a: Aligner, placed: &[u64], chunks: &[u64]) -> u64
+    ensures { λ r. ⌜ r ≡ dyn-number (world a (now (placed .entry)) (now (chunks .entry))) ⌝ }
+{
+    if 0 < sound_number(a, placed, chunks) {
+        return 18;
+    }
+    if a.start < a.placed {
+        return 10;
+    }
+    if chunks.len() / 5 <= a.chunks {
+        return 13;
+    }
+    0
+}
+
+// The number of the end.
+pub fn end_number(a: Aligner, placed: &[u64], chunks: &[u64]) -> u64
+    ensures { λ r. ⌜ r ≡ end-number (world a (now (placed .entry)) (now (chunks .entry))) ⌝ }
+{
+    if 0 < sound_number(a, placed, chunks) {
+        return 18;
+    }
+    if a.start < a.placed {
+        return 16;
+    }
+    0
+}
+
+// A placed row into its table.
+pub fn put_placed(t: &mut [u64], k: usize, row: [u64; 3])
+    ensures { λ _. ⌜ now (t .exit) ≡ put 3 k row (now (t .entry)) ⌝ }
+{
+    ast::put_row(t, k, &row);
+}
+
+// A chunk row into its table.
+pub fn put_chunk(t: &mut [u64], k: usize, row: [u64; 5])
+    ensures { λ _. ⌜ now (t .exit) ≡ put 5 k row (now (t .entry)) ⌝ }
+{
+    ast::put_row(t, k, &row);
+}
+
+// Stages a bit field at the staged width as its offset; a total that is due becomes one chunk.
+pub fn add_bitfield(a: Aligner, placed: &mut [u64], chunks: &mut [u64], symbol: u64, width: u64) -> Called
+    ensures { λ r. ⌜ called r (now (placed .exit)) (now (chunks .exit)) ≡ call (add-bitfield symbol width) (world a (now (placed .entry)) (now (chunks .entry))) ⌝ }
+{
+    let number = bits_number(a, placed, chunks, width);
+    if number != 0 {
+        return Called { number, state: a };
+    }
+    let total = a.width + width;
+    put_placed(placed, a.placed, [symbol, width, a.width]);
+    if is_due(total) {
+        let first = a.start as u64;
+        let count = (a.placed + 1 - a.start) as u64;
+        put_chunk(chunks, a.chunks, [1, first, count, total, 0]);
+        return Called {
+            number,
+            state: Aligner {
+                placed: a.placed + 1,
+                chunks: a.chunks + 1,
+                start: a.placed + 1,
+                width: 0,
+            },
+        };
+    }
+    Called {
+        number,
+        state: Aligner {
+            placed: a.placed + 1,
+            chunks: a.chunks,
+            start: a.start,
+            width: total,
+        },
+    }
+}
+
+// One chunk of bytes of a known width.
+pub fn add_bytes(a: Aligner, placed: &mut [u64], chunks: &mut [u64], symbol: u64, width: u64) -> Called
+    ensures { λ r. ⌜ called r (now (placed .exit)) (now (chunks .exit)) ≡ call (add-bytes symbol width) (world a (now (placed .entry)) (now (chunks .entry))) ⌝ }
+{
+    let number = bytes_number(a, placed, chunks, width);
+    if number != 0 {
+        return Called { number, state: a };
+    }
+    put_chunk(chunks, a.chunks, [2, 0, 0, width, symbol]);
+    Called {
+        number,
+        state: Aligner {
+            placed: a.placed,
+            chunks: a.chunks + 1,
+            start: a.start,
+            width: a.width,
+        },
+    }
+}
+
+// One chunk of bytes of an unknown width.
+pub fn add_dyn_bytes(a: Aligner, placed: &mut [u64], chunks: &mut [u64], symbol: u64) -> Called
+    ensures { λ r. ⌜ called r (now (placed .exit)) (now (chunks .exit)) ≡ call (add-dyn-bytes symbol) (world a (now (placed .entry)) (now (chunks .entry))) ⌝ }
+{
+    let number = dyn_number(a, placed, chunks);
+    if number != 0 {
+        return Called { number, state: a };
+    }
+    put_chunk(chunks, a.chunks, [3, 0, 0, 0, symbol]);
+    Called {
+        number,
+        state: Aligner {
+            placed: a.placed,
+            chunks: a.chunks + 1,
+            start: a.start,
+            width: a.width,
+        },
+    }
+}
+
+// The end: the chunk count, where nothing is staged. It changes nothing.
+pub fn align(a: Aligner, placed: &[u64], chunks: &[u64]) -> Ended
+    ensures { λ r. ⌜ r ≡ ended a (now (placed .entry)) (now (chunks .entry)) ⌝ }
+{
+    let number = end_number(a, placed, chunks);
+    if number != 0 {
+        return Ended { number, chunks: 0 };
+    }
+    Ended {
+        number,
+        chunks: a.chunks,
+    }
+}

@@ -1,0 +1,16 @@
+pub mod Choice
+pub mod Quoted
+pub mod Utf8
+pub mod Places
+pub mod Convert
+pub mod Rules
+pub mod Peg
+pub mod Forest
+pub mod Pdl
+pub mod Tables
+pub mod Walk
+pub mod Reading
+pub mod Alignment
+pub mod Feeding
+pub mod Everything
+pub mod Papers

@@ -1,0 +1,52 @@
+//! The lines of 01's program, and those of a layout.
+
+use crate::layout::Layout;
+use crate::reading::{Reading, Refusal};
+
+/// The letters of the tables' lines, in number order.
+const LETTERS: [&str; 5] = ["D", "F", "T", "C", "M"];
+
+/// The lines of an answer: E, D, F, T, C, M, or the one line R.
+pub fn answer(answer: &Result<Reading, Refusal>) -> String {
+    match answer {
+        Ok(reading) => {
+            let mut lines = line("E", &reading.endianness);
+            for (table, letter) in LETTERS.iter().enumerate() {
+                lines.extend(reading.rows(table).map(|row| line(letter, row)));
+            }
+            lines
+        }
+        Err(Refusal {
+            number,
+            place,
+            reason,
+        }) => line("R", &[*number, *place, *reason]),
+    }
+}
+
+/// The lines of a declaration's layout: L (row, number, place, reason, placed, chunks), and
+/// then P for each placed field and K for each chunk.
+pub fn layout(row: u64, layout: &Result<Layout, Refusal>) -> String {
+    match layout {
+        Ok(Layout { placed, chunks }) => {
+            let (placed_count, chunk_count) = (placed.len() as u64, chunks.len() as u64);
+            let mut lines = line("L", &[row, 0, 0, 0, placed_count, chunk_count]);
+            lines.extend(placed.iter().map(|row| line("P", row)));
+            lines.extend(chunks.iter().map(|row| line("K", row)));
+            lines
+        }
+        Err(refusal) => {
+            let Refusal {
+                number,
+                place,
+                reason,
+            } = *refusal;
+            line("L", &[row, number, place, reason, 0, 0])
+        }
+    }
+}
+
+fn line(letter: &str, words: &[u64]) -> String {
+    let words: String = words.iter().map(|word| format!(" {word}")).collect();
+    format!("{letter}{words}\n")
+}

@@ -1,0 +1,51 @@
+//! What a source's reading is: rows of words in five tables, or a refusal.
+
+use std::slice::ChunksExact;
+
+/// The tables, in the order of their numbers less 1.
+pub const DECLARATIONS: usize = 0;
+pub const FIELDS: usize = 1;
+pub const TAGS: usize = 2;
+pub const CONSTRAINTS: usize = 3;
+pub const COMMENTS: usize = 4;
+
+/// Words in a row of each table.
+pub const ROW_WORDS: [usize; 5] = [17, 20, 12, 12, 7];
+
+/// A refusal as 01 numbers it; all words are 0 when a call is accepted.
+#[derive(Clone, Copy, Debug, Default, PartialEq, Eq)]
+pub struct Refusal {
+    pub number: u64,
+    pub place: u64,
+    pub reason: u64,
+}
+
+impl Refusal {
+    pub fn new(number: u64, place: u64) -> Refusal {
+        Refusal {
+            number,
+            place,
+            reason: 0,
+        }
+    }
+}
+
+/// An accepted source.
+#[derive(Clone, Debug, PartialEq, Eq)]
+pub struct Reading {
+    /// 1 little or 2 big, then the place of the line.
+    pub endianness: [u64; 7],
+    /// The words of each table, row after row.
+    pub tables: [Vec<u64>; 5],
+}
+
+impl Reading {
+    pub fn rows(&self, table: usize) -> ChunksExact<'_, u64> {
+        self.tables[table].chunks_exact(ROW_WORDS[table])
+    }
+
+    /// How many rows each table has.
+    pub fn counts(&self) -> [u64; 5] {
+        std::array::from_fn(|table| self.rows(table).len() as u64)
+    }
+}
