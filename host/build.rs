@@ -7,11 +7,8 @@ use std::{env, fs};
 const USUAL_FOLDER: &str = "../../shared/docs/src/pdl-compiler/src";
 
 /// The modules that the library takes over, and their files.
-const MODULES: [(&str, &str); 3] = [
-    ("ast", "ast.rs"),
-    ("parser", "parser.rs"),
-    ("alignment", "backends/common/alignment.rs"),
-];
+const MODULES: [(&str, &str); 3] =
+    [("ast", "ast.rs"), ("parser", "parser.rs"), ("alignment", "backends/common/alignment.rs")];
 
 fn main() {
     println!("cargo::rerun-if-env-changed=PDL_SRC");
@@ -19,10 +16,8 @@ fn main() {
     println!("cargo::rustc-env=PEST_VERSION={}", pest_version());
 
     let folder = env::var_os("PDL_SRC").map_or_else(|| PathBuf::from(USUAL_FOLDER), PathBuf::from);
-    let modules: String = MODULES
-        .iter()
-        .filter_map(|(name, file)| module(&folder, name, file))
-        .collect();
+    let modules: String =
+        MODULES.iter().filter_map(|(name, file)| module(&folder, name, file)).collect();
     let out = PathBuf::from(env::var_os("OUT_DIR").expect("cargo sets OUT_DIR"));
     fs::write(out.join("pdl.rs"), modules).expect("OUT_DIR can be written");
 }
@@ -38,9 +33,7 @@ fn module(folder: &Path, name: &str, file: &str) -> Option<String> {
         return None;
     };
     println!("cargo::rerun-if-changed={}", path.display());
-    Some(format!(
-        "#[allow(warnings, clippy::all)]\n#[path = {path:?}]\npub mod {name};\n"
-    ))
+    Some(format!("#[allow(warnings, clippy::all)]\n#[path = {path:?}]\npub mod {name};\n"))
 }
 
 /// The version of pest that this build took, as cargo wrote it down.

@@ -19,10 +19,7 @@ pub struct Room {
 }
 
 impl Room {
-    pub const ENOUGH: Room = Room {
-        placed: usize::MAX,
-        chunks: usize::MAX,
-    };
+    pub const ENOUGH: Room = Room { placed: usize::MAX, chunks: usize::MAX };
 }
 
 /// All that an aligner holds, in 01's rows; the staged fields are the last placed rows.

@@ -14,10 +14,7 @@ pub struct Limits {
 
 impl Limits {
     /// The program that reads standard input.
-    pub const PROGRAM: Limits = Limits {
-        bytes: 16_384,
-        rows: [40, 100, 100, 60, 100],
-    };
+    pub const PROGRAM: Limits = Limits { bytes: 16_384, rows: [40, 100, 100, 60, 100] };
 
     /// The library, with as much room as it is lent.
     pub fn library(rows: [usize; 5]) -> Limits {
@@ -50,11 +47,7 @@ pub fn read(source: &[u8], bytes: usize) -> Result<Reading, Refusal> {
 pub fn fit(reading: Reading, rows: [usize; 5]) -> Result<Reading, Refusal> {
     let mut needed = (1..).zip(reading.counts()).zip(rows);
     match needed.find(|((_, count), room)| *count > *room as u64) {
-        Some(((table, reason), _)) => Err(Refusal {
-            number: 5,
-            place: table,
-            reason,
-        }),
+        Some(((table, reason), _)) => Err(Refusal { number: 5, place: table, reason }),
         None => Ok(reading),
     }
 }
@@ -67,23 +60,22 @@ pub struct Words {
     pub endianness: [u64; 7],
 }
 
-/// Reads a source into lent tables: rows go to the front, all other words stay as they are.
+/// Reads a source into lent tables, as the library does.
 pub fn read_into(source: &[u8], tables: &mut [Vec<u64>; 5]) -> Words {
-    let room = std::array::from_fn(|table| tables[table].len() / ROW_WORDS[table]);
-    match answer(source, &Limits::library(room)) {
-        Err(refusal) => Words {
-            refusal,
-            ..Words::default()
-        },
+    let rows = std::array::from_fn(|table| tables[table].len() / ROW_WORDS[table]);
+    write(&answer(source, &Limits::library(rows)), tables)
+}
+
+/// Writes an answer into lent tables: rows go to the front, and all other words stay.
+pub fn write(answer: &Result<Reading, Refusal>, tables: &mut [Vec<u64>; 5]) -> Words {
+    match answer {
+        Err(refusal) => Words { refusal: *refusal, ..Words::default() },
         Ok(reading) => {
             for (table, rows) in tables.iter_mut().zip(&reading.tables) {
                 table[..rows.len()].copy_from_slice(rows);
             }
-            Words {
-                refusal: Refusal::default(),
-                counts: reading.counts(),
-                endianness: reading.endianness,
-            }
+            let (counts, endianness) = (reading.counts(), reading.endianness);
+            Words { counts, endianness, ..Words::default() }
         }
     }
 }

@@ -11,10 +11,7 @@ use crate::reading::{
 /// Panics unless the Rust says of the source what `answer` says: a reading, 3 or 4.
 pub fn check(source: &str, answer: &Result<Reading, Refusal>) {
     let mut database = ast::SourceDatabase::new();
-    let agreed = match (
-        parse_inline(&mut database, "source", source.to_owned()),
-        answer,
-    ) {
+    let agreed = match (parse_inline(&mut database, "source", source.to_owned()), answer) {
         (Ok(file), Ok(reading)) => {
             Check::new(source, reading).file(&file);
             true
@@ -58,11 +55,7 @@ struct Check<'a> {
 
 impl<'a> Check<'a> {
     fn new(source: &'a str, reading: &'a Reading) -> Self {
-        Check {
-            source,
-            reading,
-            checked: [0; 5],
-        }
+        Check { source, reading, checked: [0; 5] }
     }
 
     fn file(mut self, file: &ast::File) {
@@ -101,22 +94,16 @@ impl<'a> Check<'a> {
             DeclDesc::Packet { .. } => (2, parent, None, fields),
             DeclDesc::Struct { .. } => (3, parent, None, fields),
             DeclDesc::Group { .. } => (4, parent, None, fields),
-            DeclDesc::Checksum {
-                function, width, ..
-            } => (5, Some(function.as_str()), Some(*width), fields),
-            DeclDesc::CustomField {
-                function, width, ..
-            } => (6, Some(function.as_str()), *width, fields),
+            DeclDesc::Checksum { function, width, .. } => {
+                (5, Some(function.as_str()), Some(*width), fields)
+            }
+            DeclDesc::CustomField { function, width, .. } => {
+                (6, Some(function.as_str()), *width, fields)
+            }
             DeclDesc::Test { .. } => unreachable!("the Rust keeps no test declaration"),
         };
         let constraints = Rows(CONSTRAINTS, declaration.constraints().len());
-        let cells = [
-            Name(declaration.id()),
-            Name(second),
-            Number(width),
-            members,
-            constraints,
-        ];
+        let cells = [Name(declaration.id()), Name(second), Number(width), members, constraints];
         self.row(DECLARATIONS, kind, &declaration.loc, &cells);
         declaration.constraints().for_each(|c| self.constraint(c));
         declaration.fields().for_each(|field| self.field(field));
@@ -135,12 +122,7 @@ impl<'a> Check<'a> {
         let cells: Vec<_> = [Name(Some(tag.id()))].into_iter().chain(numbers).collect();
         self.row(TAGS, kind, tag.loc(), &cells);
         for value in inner(tag) {
-            let cells = [
-                Name(Some(&value.id)),
-                Word(value.value as u64),
-                Word(0),
-                Word(0),
-            ];
+            let cells = [Name(Some(&value.id)), Word(value.value as u64), Word(0), Word(0)];
             self.row(TAGS, 4, &value.loc, &cells);
         }
     }
@@ -174,10 +156,7 @@ impl<'a> Check<'a> {
         ];
         self.row(FIELDS, kind, &field.loc, &cells);
         let conditions = field.cond.iter();
-        constraints
-            .iter()
-            .chain(conditions)
-            .for_each(|c| self.constraint(c));
+        constraints.iter().chain(conditions).for_each(|c| self.constraint(c));
     }
 
     /// Checks the next row of a table, word by word.
@@ -220,11 +199,7 @@ impl<'a> Check<'a> {
     }
 
     fn agree<T: PartialEq + std::fmt::Debug + ?Sized>(&self, ours: &T, rust: &T, what: &str) {
-        assert!(
-            ours == rust,
-            "{what}: {ours:?} is {rust:?} in the Rust, for {:?}",
-            self.source
-        );
+        assert!(ours == rust, "{what}: {ours:?} is {rust:?} in the Rust, for {:?}", self.source);
     }
 }
 
@@ -256,18 +231,8 @@ fn described(desc: &FieldDesc) -> (u64, [Option<&str>; 3], [Option<usize>; 2]) {
             (9, [Some(enum_id), Some(tag_id), None], [None; 2])
         }
         FieldDesc::Reserved { width } => (10, [None; 3], [Some(*width), None]),
-        FieldDesc::Array {
-            id,
-            width,
-            type_id,
-            size_modifier,
-            size,
-        } => {
-            let names = [
-                Some(id.as_str()),
-                type_id.as_deref(),
-                size_modifier.as_deref(),
-            ];
+        FieldDesc::Array { id, width, type_id, size_modifier, size } => {
+            let names = [Some(id.as_str()), type_id.as_deref(), size_modifier.as_deref()];
             (11, names, [*width, *size])
         }
         FieldDesc::Scalar { id, width } => (12, one(id), [Some(*width), None]),

@@ -2,6 +2,8 @@
 
 use std::num::IntErrorKind;
 
+const _: () = assert!(usize::BITS == 64, "01 takes the Rust with a 64-bit usize");
+
 /// The reasons of refusal 4.
 pub const EMPTY: u64 = 1;
 pub const BAD_DIGIT: u64 = 2;
@@ -16,14 +18,14 @@ pub fn convert(text: &[u8]) -> Result<u64, u64> {
     let Ok(digits) = std::str::from_utf8(digits) else {
         return Err(BAD_DIGIT);
     };
-    usize::from_str_radix(digits, radix)
-        .map(|number| number as u64)
-        .map_err(|error| match error.kind() {
+    usize::from_str_radix(digits, radix).map(|number| number as u64).map_err(|error| {
+        match error.kind() {
             IntErrorKind::Empty => EMPTY,
             // The Rust stops at the overflow; 01 looks for a wrong byte in what is left.
             IntErrorKind::PosOverflow if all_digits(digits, radix) => TOO_LARGE,
             _ => BAD_DIGIT,
-        })
+        }
+    })
 }
 
 fn all_digits(text: &str, radix: u32) -> bool {

@@ -31,13 +31,8 @@ pub fn feed(declarations: &[u64], fields: &[u64], row: u64, room: Room) -> Resul
         added.map_err(|number| Refusal::new(number, index))?;
     }
     let state = aligner.state();
-    aligner
-        .end()
-        .map_err(|number| Refusal::new(number, state.placed[state.staged_start][0]))?;
-    Ok(Layout {
-        placed: state.placed,
-        chunks: state.chunks,
-    })
+    aligner.end().map_err(|number| Refusal::new(number, state.placed[state.staged_start][0]))?;
+    Ok(Layout { placed: state.placed, chunks: state.chunks })
 }
 
 /// What a field adds to the alignment, or the number of the refusal of its row.

@@ -9,9 +9,7 @@ pub type Node<'i> = Pair<'i, Rule>;
 /// The parts of a node but for comments, as the Rust's own `children`.
 pub fn children<'i>(node: &Node<'i>) -> Vec<Node<'i>> {
     let parts = node.clone().into_inner();
-    parts
-        .filter(|part| part.as_rule() != Rule::COMMENT)
-        .collect()
+    parts.filter(|part| part.as_rule() != Rule::COMMENT).collect()
 }
 
 pub fn of_rule<'a, 'i>(parts: &'a [Node<'i>], rule: Rule) -> impl Iterator<Item = &'a Node<'i>> {
@@ -59,8 +57,5 @@ pub fn collect_integers<'i>(node: &Node<'i>, found: &mut Vec<Node<'i>>) {
 }
 
 pub fn is_name(node: &Node) -> bool {
-    matches!(
-        node.as_rule(),
-        Rule::identifier | Rule::payload_identifier | Rule::body_identifier
-    )
+    matches!(node.as_rule(), Rule::identifier | Rule::payload_identifier | Rule::body_identifier)
 }

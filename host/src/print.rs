@@ -16,11 +16,7 @@ pub fn answer(answer: &Result<Reading, Refusal>) -> String {
             }
             lines
         }
-        Err(Refusal {
-            number,
-            place,
-            reason,
-        }) => line("R", &[*number, *place, *reason]),
+        Err(Refusal { number, place, reason }) => line("R", &[*number, *place, *reason]),
     }
 }
 
@@ -36,11 +32,7 @@ pub fn layout(row: u64, layout: &Result<Layout, Refusal>) -> String {
             lines
         }
         Err(refusal) => {
-            let Refusal {
-                number,
-                place,
-                reason,
-            } = *refusal;
+            let Refusal { number, place, reason } = *refusal;
             line("L", &[row, number, place, reason, 0, 0])
         }
     }

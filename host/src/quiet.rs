@@ -31,6 +31,5 @@ pub fn catch<T>(run: impl FnOnce() -> T) -> Result<T, String> {
 
 fn message(payload: &dyn Any) -> String {
     let text = payload.downcast_ref::<&str>().map(|text| text.to_string());
-    text.or_else(|| payload.downcast_ref::<String>().cloned())
-        .expect("a panic with a text")
+    text.or_else(|| payload.downcast_ref::<String>().cloned()).expect("a panic with a text")
 }

@@ -22,11 +22,7 @@ pub struct Refusal {
 
 impl Refusal {
     pub fn new(number: u64, place: u64) -> Refusal {
-        Refusal {
-            number,
-            place,
-            reason: 0,
-        }
+        Refusal { number, place, reason: 0 }
     }
 }
 

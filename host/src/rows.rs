@@ -14,10 +14,7 @@ pub fn rows(root: Node) -> Result<Reading, Refusal> {
     if let Some(refusal) = first_bad_integer(&root) {
         return Err(refusal);
     }
-    let mut walk = Walk {
-        line_starts: line_starts(root.as_str()),
-        tables: Default::default(),
-    };
+    let mut walk = Walk { line_starts: line_starts(root.as_str()), tables: Default::default() };
     for comment in root.clone().into_inner().flatten() {
         if comment.as_rule() == Rule::COMMENT {
             walk.comment(&comment);
@@ -31,10 +28,7 @@ pub fn rows(root: Node) -> Result<Reading, Refusal> {
             _ => walk.declaration(&node),
         }
     }
-    Ok(Reading {
-        endianness,
-        tables: walk.tables,
-    })
+    Ok(Reading { endianness, tables: walk.tables })
 }
 
 /// Refusal 4 of the first integer, in the Rust's order, that does not convert.
@@ -43,11 +37,7 @@ fn first_bad_integer(root: &Node) -> Option<Refusal> {
     collect_integers(root, &mut integers);
     integers.iter().find_map(|node| {
         let reason = convert(node.as_str().as_bytes()).err()?;
-        Some(Refusal {
-            number: 4,
-            place: node.as_span().start() as u64,
-            reason,
-        })
+        Some(Refusal { number: 4, place: node.as_span().start() as u64, reason })
     })
 }
 
@@ -63,11 +53,7 @@ struct Walk {
 
 impl Walk {
     fn endianness(&self, node: &Node) -> [u64; 7] {
-        let value = if node.as_str().starts_with("little") {
-            1
-        } else {
-            2
-        };
+        let value = if node.as_str().starts_with("little") { 1 } else { 2 };
         let mut words = [value; 7];
         words[1..].copy_from_slice(&self.place(node));
         words
@@ -75,11 +61,7 @@ impl Walk {
 
     fn comment(&mut self, node: &Node) {
         // Inside an atomic rule pest names no further rules: the text says which comment it is.
-        let kind = if node.as_str().starts_with("/*") {
-            1
-        } else {
-            2
-        };
+        let kind = if node.as_str().starts_with("/*") { 1 } else { 2 };
         self.push(COMMENTS, kind, node, &[]);
     }
 

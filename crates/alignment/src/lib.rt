@@ -19,7 +19,7 @@ pub struct Ended {
 }
 
 // 18 where the state contradicts itself or its tables, else 0.
-pub fn sound_number(a: Aligner, placed: &[u64], chunks: &[u64]) -> u64
+fn sound_number(a: Aligner, placed: &[u64], chunks: &[u64]) -> u64
     ensures { λ r. ⌜ r ≡ sound (world a (now (placed .entry)) (now (chunks .entry))) ⌝ }
 {
     if 63 < a.width {
@@ -44,7 +44,7 @@ pub fn sound_number(a: Aligner, placed: &[u64], chunks: &[u64]) -> u64
 }
 
 // Whether a total becomes a chunk.
-pub fn is_due(total: u64) -> bool
+fn is_due(total: u64) -> bool
     ensures { λ r. ⌜ r ≡ due total ⌝ }
 {
     if total == 0 {
@@ -54,7 +54,7 @@ pub fn is_due(total: u64) -> bool
 }
 
 // The number of a bit field; the test of the total never wraps.
-pub fn bits_number(a: Aligner, placed: &[u64], chunks: &[u64], width: u64) -> u64
+fn bits_number(a: Aligner, placed: &[u64], chunks: &[u64], width: u64) -> u64
     ensures { λ r. ⌜ r ≡ bits-number width (world a (now (placed .entry)) (now (chunks .entry))) ⌝ }
 {
     if 0 < sound_number(a, placed, chunks) {
@@ -75,7 +75,7 @@ pub fn bits_number(a: Aligner, placed: &[u64], chunks: &[u64], width: u64) -> u6
 }
 
 // The number of bytes of a known width.
-pub fn bytes_number(a: Aligner, placed: &[u64], chunks: &[u64], width: u64) -> u64
+fn bytes_number(a: Aligner, placed: &[u64], chunks: &[u64], width: u64) -> u64
     ensures { λ r. ⌜ r ≡ bytes-number width (world a (now (placed .entry)) (now (chunks .entry))) ⌝ }
 {
     if 0 < sound_number(a, placed, chunks) {
@@ -97,7 +97,7 @@ pub fn bytes_number(a: Aligner, placed: &[u64], chunks: &[u64], width: u64) -> u
 }
 
 // The number of dynamic bytes.
-pub fn dyn_number(a: Aligner, placed: &[u64], chunks: &[u64]) -> u64
+fn dyn_number(a: Aligner, placed: &[u64], chunks: &[u64]) -> u64
     ensures { λ r. ⌜ r ≡ dyn-number (world a (now (placed .entry)) (now (chunks .entry))) ⌝ }
 {
     if 0 < sound_number(a, placed, chunks) {
@@ -113,7 +113,7 @@ pub fn dyn_number(a: Aligner, placed: &[u64], chunks: &[u64]) -> u64
 }
 
 // The number of the end.
-pub fn end_number(a: Aligner, placed: &[u64], chunks: &[u64]) -> u64
+fn end_number(a: Aligner, placed: &[u64], chunks: &[u64]) -> u64
     ensures { λ r. ⌜ r ≡ end-number (world a (now (placed .entry)) (now (chunks .entry))) ⌝ }
 {
     if 0 < sound_number(a, placed, chunks) {
@@ -126,14 +126,14 @@ pub fn end_number(a: Aligner, placed: &[u64], chunks: &[u64]) -> u64
 }
 
 // A placed row into its table.
-pub fn put_placed(t: &mut [u64], k: usize, row: [u64; 3])
+fn put_placed(t: &mut [u64], k: usize, row: [u64; 3])
     ensures { λ _. ⌜ now (t .exit) ≡ put 3 k row (now (t .entry)) ⌝ }
 {
     ast::put_row(t, k, &row);
 }
 
 // A chunk row into its table.
-pub fn put_chunk(t: &mut [u64], k: usize, row: [u64; 5])
+fn put_chunk(t: &mut [u64], k: usize, row: [u64; 5])
     ensures { λ _. ⌜ now (t .exit) ≡ put 5 k row (now (t .entry)) ⌝ }
 {
     ast::put_row(t, k, &row);
@@ -148,17 +148,18 @@ pub fn add_bitfield(a: Aligner, placed: &mut [u64], chunks: &mut [u64], symbol: 
         return Called { number, state: a };
     }
     let total = a.width + width;
+    let next = a.placed + 1;
     put_placed(placed, a.placed, [symbol, width, a.width]);
     if is_due(total) {
-        let first = a.start as u64;
-        let count = (a.placed + 1 - a.start) as u64;
-        put_chunk(chunks, a.chunks, [1, first, count, total, 0]);
+        let after = a.chunks + 1;
+        let count = next - a.start;
+        put_chunk(chunks, a.chunks, [1, a.start as u64, count as u64, total, 0]);
         return Called {
             number,
             state: Aligner {
-                placed: a.placed + 1,
-                chunks: a.chunks + 1,
-                start: a.placed + 1,
+                placed: next,
+                chunks: after,
+                start: next,
                 width: 0,
             },
         };
@@ -166,7 +167,7 @@ pub fn add_bitfield(a: Aligner, placed: &mut [u64], chunks: &mut [u64], symbol: 
     Called {
         number,
         state: Aligner {
-            placed: a.placed + 1,
+            placed: next,
             chunks: a.chunks,
             start: a.start,
             width: total,

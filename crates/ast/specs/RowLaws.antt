@@ -7,7 +7,7 @@ use native.Mathlib.Numerals.{add-one}
 use native.Mathlib.Nat.{mul-add, add-mul, mul-zero, one-mul, add-zero, zero-add, zero-mul, suc-mul, le-div-iff-mul-le, div-lt-iff-lt-mul}
 use native.Mathlib.Omega.{arith}
 use lib.ListN.{length, getD, take, drop, drop-of-length-le, take-append-drop, length-append, length-drop}
-use lib.Seq.{take-append-le, take-take, drop-drop, drop-cons, take-suc, length-take-le, paste, paste-suc, length-paste, take-length, take-at, drop-at}
+use lib.Seq.{take-append-le, take-take, drop-drop, drop-cons, take-suc, length-take-le, paste, paste-suc, length-paste, take-length, take-at, drop-at, getD-take, getD-append-add}
 use borrow.Author.Tests.{le-leb, lt-leb, leb-true, leb-false}
 use lib.Dec.{leb}
 use Rattle.meaning.specs.Tables.{put, puts, flat}
@@ -112,6 +112,22 @@ pub put-there : (size k : ℕ) (row t : List ℕ) → length row ≡ size → k 
 put-there size k row t e l =
     rw (put-fits size k row t l)
     (take-at (take (k * size) t ++ row) (drop (k * size + size) t) (k * size + size) (length-head size k row t e l))
+
+-- word by word: those before the row, and the row's own
+pub put-word-before : (size k : ℕ) (row t : List ℕ) (j : ℕ) → length row ≡ size → j < k * size → getD (put size k row t) j 0 ≡ getD t j 0
+put-word-before size k row t j e h =
+    sym (getD-take (suc j) (put size k row t) j 0 (omega arith))
+    ∙ ap (λ (x : List ℕ). getD x j 0) (put-before size k row t (suc j) e (omega arith))
+    ∙ getD-take (suc j) t j 0 (omega arith)
+
+pub put-word : (size k : ℕ) (row t : List ℕ) (i : ℕ) → length row ≡ size → k * size + size ≤ length t → i < size → getD (put size k row t) (k * size + i) 0 ≡ getD row i 0
+put-word size k row t i e l h =
+    sym (getD-take (k * size + size) (put size k row t) (k * size + i) 0 (omega arith))
+    ∙ ap (λ (x : List ℕ). getD x (k * size + i) 0) (put-there size k row t e l)
+    ∙ past (take (k * size) t) row (k * size) (length-take-le (k * size) t (omega arith))
+  where
+    past : (p q : List ℕ) (n : ℕ) → length p ≡ n → getD (p ++ q) (n + i) 0 ≡ getD q i 0
+    past p q n d = rw (← d) (getD-append-add p q i 0)
 
 -- rows that fit, one after the other: their words, and the words past them as they were
 pub puts-flat : (size k : ℕ) (rows : List (List ℕ)) (t : List ℕ) → Sized size rows → (k + length rows) * size ≤ length t

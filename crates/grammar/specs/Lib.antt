@@ -5,3 +5,5 @@ pub mod Stars
 pub mod Joining
 pub mod Bytewise
 pub mod Steps
+pub mod Nodes
+pub mod Drawing

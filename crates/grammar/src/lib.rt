@@ -3,7 +3,7 @@
 ghost use mathlib.Core.Path.{_≡_};
 ghost use Prim.Native.Nat.{_+_, _^_, _≤_, _<_, max};
 ghost use lib.ListN.{length, drop};
-ghost use Rattle.meaning.specs.Peg.{lift, join};
+ghost use Rattle.meaning.specs.Peg.{lift, join, hit, taken};
 ghost use Rattle.grammar.specs.Matching.{Within, Stays, stay};
 use meaning::Match;
 
@@ -41,5 +41,25 @@ pub fn settle(s: &[u8], m: Match, x: Match) -> Match
             Match::Missed(g) => Match::Took(n, g),
             Match::Took(k, g) => Match::Took(k, g),
         },
+    }
+}
+
+// Whether m took.
+pub fn took(m: Match) -> bool
+    ensures { λ r. ⌜ r ≡ hit m ⌝ }
+{
+    match m {
+        Match::Missed(_) => false,
+        Match::Took(_, _) => true,
+    }
+}
+
+// How much m took: nothing, where it missed.
+pub fn taken(m: Match) -> usize
+    ensures { λ r. ⌜ r ≡ taken m ⌝ }
+{
+    match m {
+        Match::Missed(_) => 0,
+        Match::Took(n, _) => n,
     }
 }

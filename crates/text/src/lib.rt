@@ -3,16 +3,16 @@ use meaning::Converted;
 use meaning::SourceLocation;
 ghost use mathlib.Core.Path.{_≡_};
 ghost use Prim.Native.Nat.{_+_, _^_, _≤_, _<_};
-ghost use mathlib.Core.List.{[], _∷_};
-ghost use lib.ListN.{length, getD, drop, replicate};
+ghost use lib.ListN.{length, getD, drop};
 ghost use Rattle.meaning.specs.Choice.{pick};
-ghost use Rattle.meaning.specs.Utf8.{_to_, tail, has, character, valid};
+ghost use Rattle.meaning.specs.Utf8.{has, character, valid};
 ghost use Rattle.meaning.specs.Places.{placeAt};
 ghost use Rattle.meaning.specs.Convert.{digitOf, digits, radix, convert, reasonOf, valueOf};
+ghost use Rattle.text.specs.Utf8Laws.{octets};
 
 // Whether a byte stands at i, from least to most.
 fn octet(s: &[u8], i: usize, least: u8, most: u8) -> bool
-    ensures { λ r. ⌜ r ≡ has ((least to most) ∷ []) (drop i (now (s .entry))) ⌝ }
+    ensures { λ r. ⌜ r ≡ has (octets least most 0) (drop i (now (s .entry))) ⌝ }
 {
     if s.len() <= i {
         return false;
@@ -27,7 +27,7 @@ fn octet(s: &[u8], i: usize, least: u8, most: u8) -> bool
 // How long the character at i is, if its first byte wants one from least to most after it, and then n tails; else 0.
 fn followed(s: &[u8], i: usize, n: usize, least: u8, most: u8) -> usize
     requires { ⌜ (i < length (now s)) × (n ≤ 2) ⌝ }
-    ensures { λ r. ⌜ r ≡ pick (has ((least to most) ∷ replicate n tail) (drop (i + 1) (now (s .entry)))) (n + 2) 0 ⌝ }
+    ensures { λ r. ⌜ r ≡ pick (has (octets least most n) (drop (i + 1) (now (s .entry)))) (n + 2) 0 ⌝ }
 {
     let second = octet(s, i + 1, least, most);
     if second {

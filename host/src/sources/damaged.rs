@@ -3,7 +3,7 @@
 use super::rng::Rng;
 
 /// What is put into a copy: parts of the grammar, other characters, and bytes that are no UTF-8.
-const PIECES: [&[u8]; 36] = [
+const PIECES: &[&[u8]] = &[
     b" ",
     b"\n",
     b"\r",
@@ -56,8 +56,8 @@ fn damage(rng: &mut Rng, copy: &mut Vec<u8>, other: &[u8]) {
     let end = (at + rng.below(4)).min(copy.len());
     match rng.below(8) {
         0 => drop(copy.drain(at..end)),
-        1 => drop(copy.splice(at..at, rng.pick(&PIECES).iter().copied())),
-        2 => drop(copy.splice(at..end, rng.pick(&PIECES).iter().copied())),
+        1 => drop(copy.splice(at..at, rng.pick(PIECES).iter().copied())),
+        2 => drop(copy.splice(at..end, rng.pick(PIECES).iter().copied())),
         3 if at < copy.len() => copy[at] ^= 1 << rng.below(8),
         4 if at < copy.len() => {
             let with = rng.below(copy.len());

@@ -8,6 +8,6 @@ pub use super::valid::with_declarations as declarations;
 /// It needs room for the comment's own marks and the line break before them.
 pub fn padded(rng: &mut Rng, source: &str, bytes: usize) -> String {
     let inside = bytes - source.len() - "\n/**/".len();
-    let letter = *rng.pick(&["x", " ", "\n", "/", "\""]);
+    let letter = rng.pick(&["x", " ", "\n", "/", "\""]);
     format!("{source}\n/*{}*/", letter.repeat(inside))
 }

@@ -10,70 +10,48 @@ pub struct Frame {
 }
 
 /// Where short texts are tried.
-pub const FRAMES: [Frame; 6] = [
+pub const FRAMES: &[Frame] = &[
     Frame {
         name: "bare",
         before: "",
         after: "",
-        letters: &[
-            "little_endian_packets",
-            "big_endian_packets",
-            "\n",
-            " ",
-            "/",
-            "*",
-            "a",
-        ],
-        longest: 5,
+        letters: &["little_endian_packets", "big_endian_packets", "\n", " ", "/", "*", "a"],
+        longest: 6,
     },
     Frame {
-        name: "file",
+        name: "declaration",
         before: "big_endian_packets\n",
         after: "",
-        letters: &[
-            "test ",
-            "custom_field ",
-            "A",
-            "{",
-            "}",
-            "\"",
-            ",",
-            ":",
-            "0",
-            "/*",
-            "\n",
-        ],
-        longest: 4,
+        letters: &["test A{", "custom_field ", "B", ":", "8", "\"", "\"\"", ",", "}", "/*"],
+        longest: 5,
     },
     Frame {
         name: "packet",
         before: "little_endian_packets\npacket A",
         after: "{}",
         letters: &["a", "(", ")", ":", "=", ",", "1", " ", "//", "\n"],
-        longest: 4,
+        longest: 5,
     },
     Frame {
         name: "field",
         before: "little_endian_packets\npacket A{",
         after: "}",
         letters: &["a", ":", "8", "[", "]", "+", ",", "{", "}", "=", " ", "if"],
-        longest: 4,
+        longest: 5,
     },
     Frame {
-        name: "special",
-        before: "little_endian_packets\ngroup A{_",
+        name: "special field",
+        before: "little_endian_packets\ngroup A{",
         after: "}",
-        letters: &[
-            "payload_", "_body_", "size_", "fixed_", "(", ")", ":", "=", "[", "]", "+", "1",
-        ],
-        longest: 4,
+        letters: &["_payload_", "_body_", "_size_(", "):", ":[", "+", "1", "]", ",", "if a=1"],
+        longest: 5,
     },
     Frame {
-        name: "enum",
+        name: "tag",
         before: "big_endian_packets\nenum A:8{",
         after: "}",
         letters: &["a", "=", "1", ".", "{", "}", ",", "0x", "X", " ", "/*/"],
-        longest: 4,
+        longest: 5,
     },
 ];
 

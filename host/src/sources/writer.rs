@@ -13,53 +13,21 @@ enum Spacing {
     Wild,
 }
 
-const WHITESPACE: [&str; 4] = [" ", "\n", "\t", "\r"];
+const WHITESPACE: &[&str] = &[" ", "\n", "\t", "\r"];
 
 /// Pieces of comments and strings, with what is easily taken for something else.
-const PIECES: [&str; 20] = [
-    "a",
-    "0x",
-    " ",
-    "\t",
-    "\r",
-    "*",
-    "**",
-    "/",
-    "//",
-    "/*",
-    "{",
-    "}",
-    "packet A {}",
-    "if",
-    ",",
-    "é",
-    "\u{20ac}",
-    "\u{1f600}",
-    "\u{0}",
-    "\u{a0}",
+const PIECES: &[&str] = &[
+    "a", "0x", " ", "\t", "\r", "*", "**", "/", "//", "/*", "{", "}", "packet A {}", "if", ",",
+    "é", "\u{20ac}", "\u{1f600}", "\u{0}", "\u{a0}",
 ];
 
-const NAMES: [&str; 16] = [
-    "A",
-    "x",
-    "if",
-    "enumx",
-    "B",
-    "packet",
-    "ifx",
-    "a_b",
-    "Z9_",
-    "test",
-    "i",
-    "body",
-    "e0xf",
-    "little_endian_packets",
-    "y__",
-    "X",
+const NAMES: &[&str] = &[
+    "A", "x", "if", "enumx", "B", "packet", "ifx", "a_b", "Z9_", "test", "i", "body", "e0xf",
+    "little_endian_packets", "y__", "X",
 ];
 
 /// Integers that convert and are easily got wrong.
-const EDGE_INTEGERS: [&str; 14] = [
+const EDGE_INTEGERS: &[&str] = &[
     "0",
     "00",
     "1",
@@ -77,15 +45,9 @@ const EDGE_INTEGERS: [&str; 14] = [
 ];
 
 /// Integers that match but do not convert.
-const BAD_INTEGERS: [&str; 8] = [
-    "0X10",
-    "0X0",
-    "0Xffffffffffffffffffff",
-    "18446744073709551616",
-    "0x10000000000000000",
-    "99999999999999999999",
-    "0018446744073709551616",
-    "20000000000000000000000000000000",
+const BAD_INTEGERS: &[&str] = &[
+    "0X10", "0X0", "0Xffffffffffffffffffff", "18446744073709551616", "0x10000000000000000",
+    "99999999999999999999", "0018446744073709551616", "20000000000000000000000000000000",
 ];
 
 pub struct Writer<'r> {
@@ -98,15 +60,9 @@ pub struct Writer<'r> {
 
 impl Writer<'_> {
     pub fn new(rng: &mut Rng) -> Writer<'_> {
-        let spacing = *rng.pick(&[Spacing::Tight, Spacing::Plain, Spacing::Wild]);
-        let bad_integers = rng.one_in(8);
-        Writer {
-            rng,
-            text: String::new(),
-            spacing,
-            bad_integers,
-            after_name: false,
-        }
+        let spacing = rng.pick(&[Spacing::Tight, Spacing::Plain, Spacing::Wild]);
+        let bad_integers = rng.one_in(4);
+        Writer { rng, text: String::new(), spacing, bad_integers, after_name: false }
     }
 
     /// The source, with a last run of blanks and perhaps a line comment that the end closes.
@@ -120,9 +76,7 @@ impl Writer<'_> {
 
     /// The endianness line.
     pub fn header(&mut self) {
-        let word = *self
-            .rng
-            .pick(&["little_endian_packets", "big_endian_packets"]);
+        let word = self.rng.pick(&["little_endian_packets", "big_endian_packets"]);
         self.keyword(word);
     }
 
@@ -143,7 +97,7 @@ impl Writer<'_> {
     }
 
     pub fn name(&mut self) {
-        let name = *self.rng.pick(&NAMES);
+        let name = self.rng.pick(NAMES);
         self.parts(&[name]);
         // Any other part may be followed by a letter at once: `8if`, `_body_ifx=1`.
         self.after_name = true;
@@ -151,8 +105,8 @@ impl Writer<'_> {
 
     pub fn integer(&mut self) {
         let integer = match self.rng.below(6) {
-            0 if self.bad_integers => self.rng.pick(&BAD_INTEGERS).to_string(),
-            0 | 1 => self.rng.pick(&EDGE_INTEGERS).to_string(),
+            0 if self.bad_integers => self.rng.pick(BAD_INTEGERS).to_string(),
+            0 | 1 => self.rng.pick(EDGE_INTEGERS).to_string(),
             2 => format!("{:#x}", self.rng.word()),
             3 => self.rng.word().to_string(),
             _ => self.rng.below(100).to_string(),
@@ -169,9 +123,7 @@ impl Writer<'_> {
                 self.parts(&[&width]);
             }
             _ => {
-                let width = *self
-                    .rng
-                    .pick(&["8", "16", "0x20", "64", "24", "4", "3", "5"]);
+                let width = self.rng.pick(&["8", "16", "0x20", "64", "24", "4", "3", "5"]);
                 self.parts(&[width]);
             }
         }
@@ -179,12 +131,12 @@ impl Writer<'_> {
 
     /// A size modifier, whose number is never converted.
     pub fn modifier(&mut self) {
-        let modifier = *self.rng.pick(&["+0", "+1", "+12", "+99999999999999999999"]);
+        let modifier = self.rng.pick(&["+0", "+1", "+12", "+99999999999999999999"]);
         self.parts(&[modifier]);
     }
 
     pub fn string(&mut self) {
-        let text = self.pieces();
+        let text = self.pieces() + self.rng.pick(&["", "\n", "\\"]);
         self.parts(&[&format!("\"{text}\"")]);
     }
 
@@ -207,15 +159,13 @@ impl Writer<'_> {
     }
 
     fn whitespace(&mut self) {
-        let blank = *self.rng.pick(&WHITESPACE);
+        let blank = self.rng.pick(WHITESPACE);
         self.text += blank;
-        self.after_name = false;
     }
 
     fn block_comment(&mut self) {
-        let text = (self.pieces() + "\"\n").replace("*/", "*");
-        let text = text.trim_end_matches(|_| self.rng.one_in(2));
-        self.text += &format!("/*{text}*/");
+        let text = self.pieces() + self.rng.pick(&["", "\"", "\n", "*"]);
+        self.text += &format!("/*{}*/", text.replace("*/", "* "));
     }
 
     fn line_comment(&mut self) {
@@ -224,8 +174,6 @@ impl Writer<'_> {
     }
 
     fn pieces(&mut self) -> String {
-        (0..self.rng.below(5))
-            .map(|_| *self.rng.pick(&PIECES))
-            .collect()
+        (0..self.rng.below(5)).map(|_| self.rng.pick(PIECES)).collect()
     }
 }

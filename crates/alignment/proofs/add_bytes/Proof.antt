@@ -1,3 +1,8 @@
+-- `alignment::add_bytes` meets its contract: refused as judged, or the chunk row put.
+use mathlib.Core.Path.{sym, _∙_}
+use native.Mathlib.Omega.{arith}
+use Rattle.alignment.specs.NumberLaws.{bytes-fit}
+use Rattle.alignment.proofs.Laws.{bytes-refused, bytes-chunk}
 use borrow.Author.Needs.{needs}
 use Rattle.alignment.proofs.add_bytes.Statement.{statement}
 use Rattle.alignment.proofs.add_bytes.Tie as tie
@@ -20,7 +25,7 @@ same-length-2 c = search needs
 
 -- src/lib.rt:183:9
 returns : tie.Need-returns
-returns c = ?
+returns c = bytes-refused _ _ _ _ _ _ (c .before .bytes-number .ensures) (c .if1 .taken)
 
 -- src/lib.rt:185:5
 put-chunk-requires : tie.Need-put-chunk-requires
@@ -28,7 +33,7 @@ put-chunk-requires c κs = search needs
 
 -- src/lib.rt:190:21
 add-t16 : tie.Need-add-t16
-add-t16 c = ?
+add-t16 c = omega (arith, bytes-fit _ _ (sym (c .before .before .before .before .before .before .bytes-number .ensures) ∙ (c .before .before .before .before .before .if1 .left)) .chunk)
 
 -- src/lib.rt:178:1
 same-length-3 : tie.Need-same-length-3
@@ -40,7 +45,7 @@ same-length-4 c = search needs
 
 -- src/lib.rt:178:1
 returns-2 : tie.Need-returns-2
-returns-2 c = ?
+returns-2 c = bytes-chunk _ _ _ _ _ _ (c .before .before .before .before .before .before .bytes-number .ensures) (c .before .before .before .before .before .if1 .left) _ (c .before .before .before .put-chunk .ensures)
 
 pub add-bytes-spec : {M : Type 1} → statement M
 add-bytes-spec =

@@ -1,3 +1,8 @@
+-- `alignment::add_dyn_bytes` meets its contract: refused as judged, or the chunk row put.
+use mathlib.Core.Path.{sym, _∙_}
+use native.Mathlib.Omega.{arith}
+use Rattle.alignment.specs.NumberLaws.{dyn-fit}
+use Rattle.alignment.proofs.Laws.{dyn-refused, dyn-chunk}
 use borrow.Author.Needs.{needs}
 use Rattle.alignment.proofs.add_dyn_bytes.Statement.{statement}
 use Rattle.alignment.proofs.add_dyn_bytes.Tie as tie
@@ -20,7 +25,7 @@ same-length-2 c = search needs
 
 -- src/lib.rt:203:9
 returns : tie.Need-returns
-returns c = ?
+returns c = dyn-refused _ _ _ _ _ (c .before .dyn-number .ensures) (c .if1 .taken)
 
 -- src/lib.rt:205:5
 put-chunk-requires : tie.Need-put-chunk-requires
@@ -28,7 +33,7 @@ put-chunk-requires c κs = search needs
 
 -- src/lib.rt:210:21
 add-t15 : tie.Need-add-t15
-add-t15 c = ?
+add-t15 c = omega (arith, dyn-fit _ (sym (c .before .before .before .before .before .before .dyn-number .ensures) ∙ (c .before .before .before .before .before .if1 .left)) .chunk)
 
 -- src/lib.rt:198:1
 same-length-3 : tie.Need-same-length-3
@@ -40,7 +45,7 @@ same-length-4 c = search needs
 
 -- src/lib.rt:198:1
 returns-2 : tie.Need-returns-2
-returns-2 c = ?
+returns-2 c = dyn-chunk _ _ _ _ _ (c .before .before .before .before .before .before .dyn-number .ensures) (c .before .before .before .before .before .if1 .left) _ (c .before .before .before .put-chunk .ensures)
 
 pub add-dyn-bytes-spec : {M : Type 1} → statement M
 add-dyn-bytes-spec =

@@ -1,3 +1,6 @@
+-- `alignment::dyn_number` meets its contract: one law for each return.
+use native.Mathlib.Omega.{arith}
+use Rattle.alignment.proofs.Laws.{dyn-18, dyn-10, dyn-13, dyn-0}
 use borrow.Author.Needs.{needs}
 use Rattle.alignment.proofs.dyn_number.Statement.{statement}
 use Rattle.alignment.proofs.dyn_number.Tie as tie
@@ -11,19 +14,19 @@ sound-number-requires c κs = search needs
 
 -- src/lib.rt:104:9
 returns : tie.Need-returns
-returns c = ?
+returns c = dyn-18 _ _ (c .before .sound-number .ensures) (omega arith)
 
 -- src/lib.rt:107:9
 returns-2 : tie.Need-returns-2
-returns-2 c = ?
+returns-2 c = dyn-10 _ _ (c .before .before .before .sound-number .ensures) (omega arith) (omega arith)
 
 -- src/lib.rt:110:9
 returns-3 : tie.Need-returns-3
-returns-3 c = ?
+returns-3 c = dyn-13 _ _ (c .before .before .before .before .before .sound-number .ensures) (omega arith) (omega arith) (omega arith)
 
 -- src/lib.rt:100:1
 returns-4 : tie.Need-returns-4
-returns-4 c = ?
+returns-4 c = dyn-0 _ _ (c .before .before .before .before .before .sound-number .ensures) (omega arith) (omega arith) (omega arith)
 
 pub dyn-number-spec : {M : Type 1} → statement M
 dyn-number-spec = tie.close (tie.spec sound-number-requires returns returns-2 returns-3 returns-4)

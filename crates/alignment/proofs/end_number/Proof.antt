@@ -1,3 +1,6 @@
+-- `alignment::end_number` meets its contract: one law for each return.
+use native.Mathlib.Omega.{arith}
+use Rattle.alignment.proofs.Laws.{end-18, end-16, end-0}
 use borrow.Author.Needs.{needs}
 use Rattle.alignment.proofs.end_number.Statement.{statement}
 use Rattle.alignment.proofs.end_number.Tie as tie
@@ -11,15 +14,15 @@ sound-number-requires c κs = search needs
 
 -- src/lib.rt:120:9
 returns : tie.Need-returns
-returns c = ?
+returns c = end-18 _ _ (c .before .sound-number .ensures) (omega arith)
 
 -- src/lib.rt:123:9
 returns-2 : tie.Need-returns-2
-returns-2 c = ?
+returns-2 c = end-16 _ _ (c .before .before .before .sound-number .ensures) (omega arith) (omega arith)
 
 -- src/lib.rt:116:1
 returns-3 : tie.Need-returns-3
-returns-3 c = ?
+returns-3 c = end-0 _ _ (c .before .before .before .sound-number .ensures) (omega arith) (omega arith)
 
 pub end-number-spec : {M : Type 1} → statement M
 end-number-spec = tie.close (tie.spec sound-number-requires returns returns-2 returns-3)

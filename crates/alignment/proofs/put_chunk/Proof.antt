@@ -1,3 +1,7 @@
+-- `alignment::put_chunk` meets its contract: the row put has its own length.
+use native.Mathlib.Omega.{arith}
+use lib.ListN.{length}
+use mathlib.Core.Path.{_≡_, _∙_}
 use borrow.Author.Needs.{needs}
 use Rattle.alignment.proofs.put_chunk.Statement.{statement}
 use Rattle.alignment.proofs.put_chunk.Tie as tie
@@ -19,7 +23,7 @@ same-length c = search needs
 
 -- src/lib.rt:136:1
 returns : tie.Need-returns
-returns c = ?
+returns c = let e : length ((c .before .before .before .before .before .before .args .t3)) ≡ 5 = search needs in (c .before .before .put-row .ensures) ∙ rw e
 
 pub put-chunk-spec : {M : Type 1} → statement M
 put-chunk-spec = tie.close (tie.spec slice-aggregate-put-row put-row-requires same-length returns)

@@ -1,0 +1,209 @@
+-- Each answer of the aligner's functions, from the tests that led to it.
+use Prim.Native.Nat.{ℕ, _+_, _-_, _%_, _<_, _≤_}
+use mathlib.Core.Path.{_≡_, refl, sym, ap, _∙_}
+use mathlib.Core.List.{List, [], _∷_}
+use mathlib.Core.Bool.{Bool, true, false}
+use native.Mathlib.Omega.{arith}
+use lib.Dec.{ltb, leb, eqb}
+use borrow.Author.Tests.{lt-ltb, le-ltb, le-leb, lt-leb, eq-eqb, ne-eqb}
+use Rattle.meaning.specs.declared.Aligner.{Aligner}
+use Rattle.meaning.specs.Tables.{put, room}
+use Rattle.meaning.specs.Alignment.{World, world, Called, settled, sound, due, bits-number, bytes-number, dyn-number, end-number, bits-done, chunk-done, call, add-bitfield, add-bytes, add-dyn-bytes}
+use Rattle.alignment.specs.Answers.{ended}
+use Rattle.alignment.specs.NumberLaws.{Sound, sound-says}
+
+-- ---- the tests of 18
+module _ (w : World) where
+  pub sound-wide : 63 < w .st .width → 18 ≡ sound w
+  unfolding sound
+  sound-wide h = simp (lt-ltb _ _ h)
+
+  module _ (h : w .st .width ≤ 63) where
+    pub sound-start : w .st .placed < w .st .start → 18 ≡ sound w
+    unfolding sound
+    sound-start i = simp (le-ltb _ _ h, lt-ltb _ _ i)
+
+    module _ (i : w .st .start ≤ w .st .placed) where
+      pub sound-placed : room 3 (w .ps) < w .st .placed → 18 ≡ sound w
+      unfolding sound
+      sound-placed j = simp (le-ltb _ _ h, le-ltb _ _ i, lt-ltb _ _ j)
+
+      module _ (j : w .st .placed ≤ room 3 (w .ps)) where
+        pub sound-chunks : room 5 (w .cs) < w .st .chunks → 18 ≡ sound w
+        unfolding sound
+        sound-chunks k = simp (le-ltb _ _ h, le-ltb _ _ i, le-ltb _ _ j, lt-ltb _ _ k)
+
+        module _ (k : w .st .chunks ≤ room 5 (w .cs)) where
+          pub sound-staged : w .st .start < w .st .placed → 0 ≡ sound w
+          unfolding sound
+          sound-staged l = simp (le-ltb _ _ h, le-ltb _ _ i, le-ltb _ _ j, le-ltb _ _ k, lt-ltb _ _ l)
+
+          pub sound-width : w .st .placed ≤ w .st .start → 0 < w .st .width → 18 ≡ sound w
+          unfolding sound
+          sound-width l m = simp (le-ltb _ _ h, le-ltb _ _ i, le-ltb _ _ j, le-ltb _ _ k, le-ltb _ _ l, lt-ltb _ _ m)
+
+          pub sound-bare : w .st .placed ≤ w .st .start → w .st .width ≤ 0 → 0 ≡ sound w
+          unfolding sound
+          sound-bare l m = simp (le-ltb _ _ h, le-ltb _ _ i, le-ltb _ _ j, le-ltb _ _ k, le-ltb _ _ l, le-ltb _ _ m)
+
+pub due-none : (t : ℕ) → t ≡ 0 → false ≡ due t
+unfolding due
+due-none t h = simp h
+
+pub due-some : (t : ℕ) → (t ≡ 0 → ⊥) → eqb (t % 8) 0 ≡ due t
+unfolding due
+due-some t h = let p : 0 < t = omega arith in simp (lt-ltb _ _ p)
+
+-- ---- the numbers; n is what the test of 18 answered
+module _ (w : World) (n : ℕ) (e : n ≡ sound w) where
+  module _ (h : 0 < n) where
+    unsound : ltb 0 (sound w) ≡ true
+    unsound = rw (← e) (lt-ltb _ _ h)
+
+    pub bits-18 : (v : ℕ) → 18 ≡ bits-number v w
+    unfolding bits-number
+    bits-18 v = simp unsound
+
+    pub bytes-18 : (v : ℕ) → 18 ≡ bytes-number v w
+    unfolding bytes-number
+    bytes-18 v = simp unsound
+
+    pub dyn-18 : 18 ≡ dyn-number w
+    unfolding dyn-number
+    dyn-18 = simp unsound
+
+    pub end-18 : 18 ≡ end-number w
+    unfolding end-number
+    end-18 = simp unsound
+
+  module _ (h : n ≤ 0) where
+    good : ltb 0 (sound w) ≡ false
+    good = rw (← e) (le-ltb _ _ h)
+
+    pub narrow : w .st .width ≤ 63
+    narrow = let z : sound w ≡ 0 = omega arith in sound-says w z .narrow
+
+    -- the code's test, which never wraps, and the total
+    pub bits-12 : (v : ℕ) → 64 - w .st .width < v → 12 ≡ bits-number v w
+    unfolding bits-number
+    bits-12 v i = let z : 64 < w .st .width + v = omega (arith, narrow) in simp (good, lt-ltb _ _ z)
+
+    module _ (v : ℕ) (i : v ≤ 64 - w .st .width) where
+      fits : ltb 64 (w .st .width + v) ≡ false
+      fits = le-ltb 64 (w .st .width + v) (omega (arith, narrow))
+
+      pub bits-13 : room 3 (w .ps) ≤ w .st .placed → 13 ≡ bits-number v w
+      unfolding bits-number
+      bits-13 j = simp (good, fits, le-leb _ _ j)
+
+      module _ (j : w .st .placed < room 3 (w .ps)) (b : Bool) (d : b ≡ due (w .st .width + v)) where
+        pub bits-13′ : b ≡ true → room 5 (w .cs) ≤ w .st .chunks → 13 ≡ bits-number v w
+        unfolding bits-number
+        bits-13′ t k = simp (good, fits, lt-leb _ _ j, sym d ∙ t, le-leb _ _ k)
+
+        pub bits-0 : b ≡ true → w .st .chunks < room 5 (w .cs) → 0 ≡ bits-number v w
+        unfolding bits-number
+        bits-0 t k = simp (good, fits, lt-leb _ _ j, sym d ∙ t, lt-leb _ _ k)
+
+        pub bits-0′ : b ≡ false → 0 ≡ bits-number v w
+        unfolding bits-number
+        bits-0′ t = simp (good, fits, lt-leb _ _ j, sym d ∙ t)
+
+    module _ (i : w .st .start < w .st .placed) where
+      pub bytes-10 : (v : ℕ) → 10 ≡ bytes-number v w
+      unfolding bytes-number
+      bytes-10 v = simp (good, lt-ltb _ _ i)
+
+      pub dyn-10 : 10 ≡ dyn-number w
+      unfolding dyn-number
+      dyn-10 = simp (good, lt-ltb _ _ i)
+
+      pub end-16 : 16 ≡ end-number w
+      unfolding end-number
+      end-16 = simp (good, lt-ltb _ _ i)
+
+    module _ (i : w .st .placed ≤ w .st .start) where
+      pub bytes-11 : (v : ℕ) → 0 < v % 8 → 11 ≡ bytes-number v w
+      unfolding bytes-number
+      bytes-11 v j = simp (good, le-ltb _ _ i, lt-ltb _ _ j)
+
+      module _ (v : ℕ) (j : v % 8 ≤ 0) where
+        pub bytes-12 : 64 < v → 12 ≡ bytes-number v w
+        unfolding bytes-number
+        bytes-12 k = simp (good, le-ltb _ _ i, le-ltb _ _ j, lt-ltb _ _ k)
+
+        pub bytes-13 : v ≤ 64 → room 5 (w .cs) ≤ w .st .chunks → 13 ≡ bytes-number v w
+        unfolding bytes-number
+        bytes-13 k l = simp (good, le-ltb _ _ i, le-ltb _ _ j, le-ltb _ _ k, le-leb _ _ l)
+
+        pub bytes-0 : v ≤ 64 → w .st .chunks < room 5 (w .cs) → 0 ≡ bytes-number v w
+        unfolding bytes-number
+        bytes-0 k l = simp (good, le-ltb _ _ i, le-ltb _ _ j, le-ltb _ _ k, lt-leb _ _ l)
+
+      pub dyn-13 : room 5 (w .cs) ≤ w .st .chunks → 13 ≡ dyn-number w
+      unfolding dyn-number
+      dyn-13 l = simp (good, le-ltb _ _ i, le-leb _ _ l)
+
+      pub dyn-0 : w .st .chunks < room 5 (w .cs) → 0 ≡ dyn-number w
+      unfolding dyn-number
+      dyn-0 l = simp (good, le-ltb _ _ i, lt-leb _ _ l)
+
+      pub end-0 : 0 ≡ end-number w
+      unfolding end-number
+      end-0 = simp (good, le-ltb _ _ i)
+
+-- ---- the calls; n is the number that was judged
+refused : (n m : ℕ) (x y : World) → n ≡ m → (n ≡ 0 → ⊥) → record { number = n; left = y } ≡ settled m x y
+refused n m x y e h = rw (← e) (simp (ne-eqb n 0 h))
+
+accepted : (n m : ℕ) (x y z : World) → n ≡ m → n ≡ 0 → z ≡ x → record { number = n; left = z } ≡ settled m x y
+accepted n m x y z e h p = rw (← e) (simp (h, p))
+
+module _ (a : Aligner) (s v : ℕ) (ps cs : List ℕ) (n : ℕ) where
+  abbrev w : World
+  w = world a ps cs
+
+  module _ (e : n ≡ bits-number v w) where
+    pub bits-refused : (n ≡ 0 → ⊥) → record { number = n; left = w } ≡ call (add-bitfield s v) w
+    unfolding call
+    bits-refused h = refused n _ _ _ e h
+
+    module _ (h : n ≡ 0) (b : Bool) (d : b ≡ due (a .width + v)) (ps′ : List ℕ) (p : ps′ ≡ put 3 (a .placed) (s ∷ v ∷ a .width ∷ []) ps) where
+      pub bits-chunk : b ≡ true → (cs′ : List ℕ) → cs′ ≡ put 5 (a .chunks) (1 ∷ a .start ∷ (a .placed + 1 - a .start) ∷ (a .width + v) ∷ 0 ∷ []) cs
+        → record { number = n; left = world (record { placed = a .placed + 1; chunks = a .chunks + 1; start = a .placed + 1; width = 0 }) ps′ cs′ } ≡ call (add-bitfield s v) w
+      unfolding call bits-done
+      bits-chunk t cs′ q = accepted n _ _ _ _ e h (simp (sym d ∙ t, p, q))
+
+      pub bits-staged : b ≡ false
+        → record { number = n; left = world (record { placed = a .placed + 1; chunks = a .chunks; start = a .start; width = a .width + v }) ps′ cs } ≡ call (add-bitfield s v) w
+      unfolding call bits-done
+      bits-staged t = accepted n _ _ _ _ e h (simp (sym d ∙ t, p))
+
+  module _ (e : n ≡ bytes-number v w) where
+    pub bytes-refused : (n ≡ 0 → ⊥) → record { number = n; left = w } ≡ call (add-bytes s v) w
+    unfolding call
+    bytes-refused h = refused n _ _ _ e h
+
+    pub bytes-chunk : n ≡ 0 → (cs′ : List ℕ) → cs′ ≡ put 5 (a .chunks) (2 ∷ 0 ∷ 0 ∷ v ∷ s ∷ []) cs
+      → record { number = n; left = world (record { placed = a .placed; chunks = a .chunks + 1; start = a .start; width = a .width }) ps cs′ } ≡ call (add-bytes s v) w
+    unfolding call chunk-done
+    bytes-chunk h cs′ q = accepted n _ _ _ _ e h (simp q)
+
+module _ (a : Aligner) (s : ℕ) (ps cs : List ℕ) (n : ℕ) (e : n ≡ dyn-number (world a ps cs)) where
+  pub dyn-refused : (n ≡ 0 → ⊥) → record { number = n; left = world a ps cs } ≡ call (add-dyn-bytes s) (world a ps cs)
+  unfolding call
+  dyn-refused h = refused n _ _ _ e h
+
+  pub dyn-chunk : n ≡ 0 → (cs′ : List ℕ) → cs′ ≡ put 5 (a .chunks) (3 ∷ 0 ∷ 0 ∷ 0 ∷ s ∷ []) cs
+    → record { number = n; left = world (record { placed = a .placed; chunks = a .chunks + 1; start = a .start; width = a .width }) ps cs′ } ≡ call (add-dyn-bytes s) (world a ps cs)
+  unfolding call chunk-done
+  dyn-chunk h cs′ q = accepted n _ _ _ _ e h (simp q)
+
+module _ (a : Aligner) (ps cs : List ℕ) (n : ℕ) (e : n ≡ end-number (world a ps cs)) where
+  pub end-refused : (n ≡ 0 → ⊥) → record { number = n; chunks = 0 } ≡ ended a ps cs
+  unfolding ended
+  end-refused h = rw (← e) (simp (ne-eqb n 0 h))
+
+  pub end-accepted : n ≡ 0 → record { number = n; chunks = a .chunks } ≡ ended a ps cs
+  unfolding ended
+  end-accepted h = rw (← e) (simp h)

@@ -1,0 +1,1 @@
+-- The forest of each token: a rule whose inside has no rule but comments leaves exactly its own node.

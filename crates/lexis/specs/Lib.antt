@@ -1,0 +1,3 @@
+pub mod Classes
+pub mod Skips
+pub mod Leaves

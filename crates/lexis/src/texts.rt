@@ -1,0 +1,67 @@
+// Quoted texts, and all that stands before one.
+ghost use Rattle.meaning.specs.Peg.{lit, any, neg, seq, star};
+ghost use Rattle.grammar.specs.Matching.{Within, Reads, Steps};
+use grammar::joined;
+use meaning::Match;
+
+// The text l.
+pub fn literal(s: &[u8], l: &[u8]) -> Match
+    ensures { λ r. ⌜ Reads (lit (now (l .entry))) (now (s .entry)) r ⌝ }
+{
+    let mut i = 0;
+    while i < l.len() {
+        if s.len() <= i {
+            return Match::Missed(1);
+        }
+        if s[i] != l[i] {
+            return Match::Missed(1);
+        }
+        i += 1;
+    }
+    Match::Took(l.len(), 0)
+}
+
+// The text l, where m ends.
+pub fn then_literal(s: &[u8], m: Match, l: &[u8]) -> Match
+    requires { ⌜ Within m (now s) ⌝ }
+    ensures { λ r. ⌜ Steps m (lit (now (l .entry))) (now (s .entry)) r ⌝ }
+{
+    match m {
+        Match::Missed(f) => Match::Missed(f),
+        Match::Took(n, f) => joined(s, n, f, literal(&s[n..], l)),
+    }
+}
+
+// All bytes before the first l.
+pub fn up_to(s: &[u8], l: &[u8]) -> Match
+    ensures { λ r. ⌜ Reads (star (seq (neg (lit (now (l .entry)))) any)) (now (s .entry)) r ⌝ }
+{
+    let mut i = 0;
+    loop {
+        if let Match::Took(_, _) = literal(&s[i..], l) {
+            return Match::Took(i, 0);
+        }
+        if i == s.len() {
+            return Match::Took(i, i + 1);
+        }
+        i += 1;
+    }
+}
+
+// All bytes before the first l, where m ends.
+pub fn then_up_to(s: &[u8], m: Match, l: &[u8]) -> Match
+    requires { ⌜ Within m (now s) ⌝ }
+    ensures { λ r. ⌜ Steps m (star (seq (neg (lit (now (l .entry)))) any)) (now (s .entry)) r ⌝ }
+{
+    match m {
+        Match::Missed(f) => Match::Missed(f),
+        Match::Took(n, f) => joined(s, n, f, up_to(&s[n..], l)),
+    }
+}
+
+// The text open, all bytes before the first close, and close: a block comment, a string.
+pub fn enclosed(s: &[u8], open: &[u8], close: &[u8]) -> Match
+    ensures { λ r. ⌜ Reads (seq (seq (lit (now (open .entry))) (star (seq (neg (lit (now (close .entry)))) any))) (lit (now (close .entry)))) (now (s .entry)) r ⌝ }
+{
+    then_literal(s, then_up_to(s, literal(s, open), close), close)
+}

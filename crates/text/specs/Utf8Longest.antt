@@ -1,0 +1,1 @@
+-- The valid prefix is valid, and no longer prefix is.

@@ -1,0 +1,232 @@
+//! Checks the oracle against itself, the unchanged Rust and the readings of document 01.
+
+mod aligning;
+mod reading;
+mod tally;
+
+use aligning::{CALL, DAMAGED, LAYOUT};
+use host::aligner::{Aligner, Call, Room};
+use host::answer::{answer, read, Limits};
+use host::cases::{self, READINGS};
+use host::integer::convert;
+use host::layout::{feed, Layout};
+use host::print;
+use host::reading::{Refusal, DECLARATIONS, FIELDS};
+use host::sources::{self, Rng, FRAMES};
+use reading::{ANSWER, CONDITIONAL, KINDS, TEST};
+use std::process::ExitCode;
+use tally::{Seen, Tally};
+
+const SEED: u64 = 1;
+
+/// How many valid sources are made unless `--count` says otherwise.
+const USUAL_COUNT: usize = 60_000;
+
+fn main() -> ExitCode {
+    let arguments: Vec<String> = std::env::args().skip(1).collect();
+    let count = match &arguments[..] {
+        [] => Some(USUAL_COUNT),
+        [flag, count] if flag == "--count" => count.parse().ok(),
+        _ => None,
+    };
+    let Some(count) = count else {
+        eprintln!("usage: selfcheck [--count sources]");
+        return ExitCode::from(2);
+    };
+    let mut run = Run::default();
+    run.readings();
+    run.by_hand();
+    run.valid(count);
+    run.damaged(count);
+    run.short();
+    run.long(count / 200);
+    run.alignments(count);
+    run.constructs(count);
+    println!("{} passed, {} failed", run.tally.passed, run.tally.failed);
+    ExitCode::from(u8::from(run.tally.failed > 0))
+}
+
+#[derive(Default)]
+struct Run {
+    tally: Tally,
+    constructs: Seen,
+}
+
+impl Run {
+    /// P1 to P9 and their like, the layout of P3, and P10 to P12.
+    fn readings(&mut self) {
+        for (source, lines) in READINGS {
+            self.tally.check(|| {
+                let answer = answer(source.as_bytes(), &Limits::PROGRAM);
+                assert_eq!(print::answer(&answer), *lines, "{source:?}");
+            });
+        }
+        self.tally.check(layout_of_p3);
+        self.tally.check(converter);
+        self.tally.check(aligner);
+        println!("readings: {} and the layout of P3, P10, P11, P12", READINGS.len());
+    }
+
+    fn source(&mut self, source: &[u8], seen: &mut Seen) {
+        self.tally.check(|| reading::check(source, seen, &mut self.constructs));
+    }
+
+    /// The sources by hand, each group refused as it should be.
+    fn by_hand(&mut self) {
+        self.group("matched", &cases::matched(), &[0, 4]);
+        self.group("mismatched", &cases::mismatched(), &[3]);
+        self.group("not UTF-8", &cases::not_utf8(), &[2]);
+        self.group("at limits", &cases::at_limits(), &[0, 1, 3, 4, 5]);
+    }
+
+    fn group(&mut self, name: &str, sources: &[Vec<u8>], numbers: &[u64]) {
+        let mut seen = Seen::default();
+        for source in sources {
+            self.source(source, &mut seen);
+        }
+        self.tally.check(|| {
+            let counts = numbers.iter().map(|number| seen.count(ANSWER, *number));
+            assert_eq!(counts.sum::<u64>(), sources.len() as u64, "{name}");
+            seen.require(ANSWER, numbers.iter().copied(), 1);
+        });
+        seen.print(&format!("by hand, {name}"));
+    }
+
+    /// No valid source may be refused for its grammar: the generator is checked, too.
+    fn valid(&mut self, count: usize) {
+        let mut rng = Rng::new(SEED);
+        let mut seen = Seen::default();
+        for _ in 0..count {
+            let source = sources::valid(&mut rng);
+            self.source(source.as_bytes(), &mut seen);
+        }
+        self.tally.check(|| {
+            seen.require(ANSWER, [0], count * 3 / 4);
+            seen.require(ANSWER, [4], count / 50);
+            assert_eq!(seen.count(ANSWER, 2) + seen.count(ANSWER, 3), 0);
+        });
+        seen.print("valid");
+    }
+
+    fn damaged(&mut self, count: usize) {
+        let mut rng = Rng::new(SEED + 1);
+        let mut seen = Seen::default();
+        let mut other = String::new();
+        for _ in 0..count {
+            let source = sources::valid(&mut rng);
+            let copy = sources::damaged(&mut rng, source.as_bytes(), other.as_bytes());
+            self.source(&copy, &mut seen);
+            other = source;
+        }
+        self.tally.check(|| {
+            seen.require(ANSWER, [0, 2, 3], count / 12);
+            seen.require(ANSWER, [4], count / 200);
+        });
+        seen.print("damaged");
+    }
+
+    fn short(&mut self) {
+        for frame in FRAMES {
+            let mut seen = Seen::default();
+            for source in frame.sources() {
+                self.source(source.as_bytes(), &mut seen);
+            }
+            self.tally.check(|| seen.require(ANSWER, [0, 3], 40));
+            seen.print(&format!("short, {}", frame.name));
+        }
+    }
+
+    /// Many declarations, and sources about as long as the program takes.
+    fn long(&mut self, count: usize) {
+        let mut rng = Rng::new(SEED + 2);
+        let mut seen = Seen::default();
+        for _ in 0..count {
+            let declarations = 5 + rng.below(60);
+            let source = sources::declarations(&mut rng, declarations);
+            self.source(source.as_bytes(), &mut seen);
+            let bytes = Limits::PROGRAM.bytes + rng.below(3) - 1;
+            let source = sources::valid(&mut rng);
+            let source = sources::padded(&mut rng, &source, bytes);
+            self.source(source.as_bytes(), &mut seen);
+        }
+        self.tally.check(|| seen.require(ANSWER, [0, 1, 5], count / 8));
+        self.tally.check(|| library_length(&mut rng));
+        seen.print("long");
+    }
+
+    fn alignments(&mut self, count: usize) {
+        let mut rng = Rng::new(SEED + 3);
+        let mut seen = Seen::default();
+        for _ in 0..count {
+            self.tally.check(|| aligning::calls(&mut rng, &mut seen));
+            let source = sources::valid(&mut rng);
+            if let Ok(reading) = read(source.as_bytes(), Limits::PROGRAM.bytes) {
+                self.tally.check(|| aligning::feed_damaged(&mut rng, &reading, &mut seen));
+            }
+        }
+        self.tally.check(|| seen.require(CALL, [0, 10, 11, 12, 13], count / 10));
+        self.tally.check(|| seen.require(DAMAGED, [0, 10, 12, 13, 14, 15, 16, 17], count / 300));
+        seen.print("alignments");
+    }
+
+    /// Every kind of row was seen often, with and without a condition, and every layout.
+    fn constructs(&mut self, count: usize) {
+        for (name, last) in KINDS {
+            self.tally.check(|| self.constructs.require(name, 1..=last, count / 100));
+        }
+        self.tally.check(|| self.constructs.require(CONDITIONAL, 1..=14, count / 200));
+        self.tally.check(|| self.constructs.require(TEST, [0], count / 100));
+        self.tally.check(|| self.constructs.require(LAYOUT, [0, 10, 12, 14, 15, 16], count / 100));
+        self.constructs.print("constructs");
+    }
+}
+
+/// The library takes a source of 1,048,576 bytes, and no longer one.
+fn library_length(rng: &mut Rng) {
+    let limits = Limits::library([usize::MAX; 5]);
+    let full = sources::padded(rng, "big_endian_packets\npacket A{}", limits.bytes) + "\n";
+    let full = full.as_bytes();
+    assert!(answer(&full[..limits.bytes], &limits).is_ok());
+    assert_eq!(answer(full, &limits), Err(Refusal::new(1, limits.bytes as u64)));
+}
+
+fn layout_of_p3() {
+    let source = b"little_endian_packets\npacket A {x: 3 , y: 5}";
+    let reading = read(source, Limits::PROGRAM.bytes).expect("P3 is accepted");
+    let [declarations, fields] = [DECLARATIONS, FIELDS].map(|table| &reading.tables[table]);
+    let layout = feed(declarations, fields, 0, Room::ENOUGH);
+    let (placed, chunks) = (vec![[0, 3, 0], [1, 5, 3]], vec![[1, 0, 2, 8, 0]]);
+    assert_eq!(layout, Ok(Layout { placed, chunks }));
+    assert_eq!(print::layout(0, &layout), "L 0 0 0 0 2 1\nP 0 3 0\nP 1 5 3\nK 1 0 2 8 0\n");
+}
+
+/// P10, and the text that the Rust and 01 call by different reasons.
+fn converter() {
+    let texts: [(&[u8], Result<u64, u64>); 8] = [
+        (b"+5", Ok(5)),
+        (b"0x", Err(1)),
+        (b"", Err(1)),
+        (b"+", Err(2)),
+        (b"0x+f", Ok(15)),
+        (b"\xff", Err(2)),
+        (b"18446744073709551616", Err(3)),
+        (b"99999999999999999999x", Err(2)),
+    ];
+    for (text, number) in texts {
+        assert_eq!(convert(text), number, "{text:?}");
+    }
+}
+
+/// P11, P12, and the total that does not wrap.
+fn aligner() {
+    let bits = |widths: &[u64]| {
+        let mut aligner = Aligner::new(Room::ENOUGH);
+        let add = |(symbol, width): (u64, &u64)| aligner.call(Call::Bits { symbol, width: *width });
+        let added: Result<(), u64> = (0..).zip(widths).try_for_each(add);
+        added.and_then(|()| aligner.end()).map(|_| aligner.state().chunks)
+    };
+    assert_eq!(bits(&[60, 4]), Ok(vec![[1, 0, 2, 64, 0]]));
+    assert_eq!(bits(&[60, 5]), Err(12));
+    assert_eq!(bits(&[0]), Err(16));
+    assert_eq!(bits(&[1, u64::MAX]), Err(12));
+}
