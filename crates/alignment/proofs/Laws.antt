@@ -170,12 +170,12 @@ module _ (a : Aligner) (s v : ℕ) (ps cs : List ℕ) (n : ℕ) where
 
     module _ (h : n ≡ 0) (b : Bool) (d : b ≡ due (a .width + v)) (ps′ : List ℕ) (p : ps′ ≡ put 3 (a .placed) (s ∷ v ∷ a .width ∷ []) ps) where
       pub bits-chunk : b ≡ true → (cs′ : List ℕ) → cs′ ≡ put 5 (a .chunks) (1 ∷ a .start ∷ (a .placed + 1 - a .start) ∷ (a .width + v) ∷ 0 ∷ []) cs
-        → record { number = n; left = world (record { placed = a .placed + 1; chunks = a .chunks + 1; start = a .placed + 1; width = 0 }) ps′ cs′ } ≡ call (add-bitfield s v) w
+          → record { number = n; left = world (record { placed = a .placed + 1; chunks = a .chunks + 1; start = a .placed + 1; width = 0 }) ps′ cs′ } ≡ call (add-bitfield s v) w
       unfolding call bits-done
       bits-chunk t cs′ q = accepted n _ _ _ _ e h (simp (sym d ∙ t, p, q))
 
       pub bits-staged : b ≡ false
-        → record { number = n; left = world (record { placed = a .placed + 1; chunks = a .chunks; start = a .start; width = a .width + v }) ps′ cs } ≡ call (add-bitfield s v) w
+          → record { number = n; left = world (record { placed = a .placed + 1; chunks = a .chunks; start = a .start; width = a .width + v }) ps′ cs } ≡ call (add-bitfield s v) w
       unfolding call bits-done
       bits-staged t = accepted n _ _ _ _ e h (simp (sym d ∙ t, p))
 
@@ -185,7 +185,7 @@ module _ (a : Aligner) (s v : ℕ) (ps cs : List ℕ) (n : ℕ) where
     bytes-refused h = refused n _ _ _ e h
 
     pub bytes-chunk : n ≡ 0 → (cs′ : List ℕ) → cs′ ≡ put 5 (a .chunks) (2 ∷ 0 ∷ 0 ∷ v ∷ s ∷ []) cs
-      → record { number = n; left = world (record { placed = a .placed; chunks = a .chunks + 1; start = a .start; width = a .width }) ps cs′ } ≡ call (add-bytes s v) w
+        → record { number = n; left = world (record { placed = a .placed; chunks = a .chunks + 1; start = a .start; width = a .width }) ps cs′ } ≡ call (add-bytes s v) w
     unfolding call chunk-done
     bytes-chunk h cs′ q = accepted n _ _ _ _ e h (simp q)
 
@@ -195,7 +195,7 @@ module _ (a : Aligner) (s : ℕ) (ps cs : List ℕ) (n : ℕ) (e : n ≡ dyn-num
   dyn-refused h = refused n _ _ _ e h
 
   pub dyn-chunk : n ≡ 0 → (cs′ : List ℕ) → cs′ ≡ put 5 (a .chunks) (3 ∷ 0 ∷ 0 ∷ 0 ∷ s ∷ []) cs
-    → record { number = n; left = world (record { placed = a .placed; chunks = a .chunks + 1; start = a .start; width = a .width }) ps cs′ } ≡ call (add-dyn-bytes s) (world a ps cs)
+      → record { number = n; left = world (record { placed = a .placed; chunks = a .chunks + 1; start = a .start; width = a .width }) ps cs′ } ≡ call (add-dyn-bytes s) (world a ps cs)
   unfolding call chunk-done
   dyn-chunk h cs′ q = accepted n _ _ _ _ e h (simp q)
 

@@ -44,12 +44,12 @@ sound-says w e =
     let r3 = past _ 18 _ refl (r2 .1) in
     let r4 = past _ 18 _ refl (r3 .1) in
     let r5 = past _ 18 0 refl (r4 .1) in
-    record
-    { narrow = ltb-false _ _ (r1 .0)
-    ; ordered = ltb-false _ _ (r2 .0)
-    ; in-placed = ltb-false _ _ (r3 .0)
-    ; in-chunks = ltb-false _ _ (r4 .0)
-    ; none = bare _ _ _ (r5 .0)
+    record {
+      narrow = ltb-false _ _ (r1 .0);
+      ordered = ltb-false _ _ (r2 .0);
+      in-placed = ltb-false _ _ (r3 .0);
+      in-chunks = ltb-false _ _ (r4 .0);
+      none = bare _ _ _ (r5 .0);
     }
 
 pub sound-is : (w : World) → Sound w → sound w ≡ 0
@@ -79,11 +79,11 @@ bits-fit v w e =
     let r2 = past _ 12 _ refl (r1 .1) in
     let r3 = past _ 13 _ refl (r2 .1) in
     let r4 = past _ 13 0 refl (r3 .1) in
-    record
-    { good = unmarred w (r1 .0)
-    ; under = ltb-false _ _ (r2 .0)
-    ; row = leb-false _ _ (r3 .0)
-    ; chunk = room-due _ _ _ (r4 .0)
+    record {
+      good = unmarred w (r1 .0);
+      under = ltb-false _ _ (r2 .0);
+      row = leb-false _ _ (r3 .0);
+      chunk = room-due _ _ _ (r4 .0);
     }
 
 -- nothing was staged, and there is a chunk row

@@ -40,7 +40,7 @@ module _ (cs : List ℕ) (k : ℕ) (row : List ℕ) (e : length row ≡ 5) where
   unfolding chunk-bits
   keeps zero h = refl
   keeps (suc n) h =
-    simp (keeps n (omega arith), put-word-before 5 k row cs (n * 5 + 0) e (omega arith), put-word-before 5 k row cs (n * 5 + 3) e (omega arith))
+      simp (keeps n (omega arith), put-word-before 5 k row cs (n * 5 + 0) e (omega arith), put-word-before 5 k row cs (n * 5 + 3) e (omega arith))
 
   adds : k * 5 + 5 ≤ length cs → chunk-bits (k + 1) (put 5 k row cs) ≡ chunk-bits k cs + pick (eqb (getD row 0 0) 1) (getD row 3 0) 0
   unfolding chunk-bits

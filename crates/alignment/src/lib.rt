@@ -140,7 +140,13 @@ fn put_chunk(t: &mut [u64], k: usize, row: [u64; 5])
 }
 
 // Stages a bit field at the staged width as its offset; a total that is due becomes one chunk.
-pub fn add_bitfield(a: Aligner, placed: &mut [u64], chunks: &mut [u64], symbol: u64, width: u64) -> Called
+pub fn add_bitfield(
+    a: Aligner,
+    placed: &mut [u64],
+    chunks: &mut [u64],
+    symbol: u64,
+    width: u64,
+) -> Called
     ensures { λ r. ⌜ called r (now (placed .exit)) (now (chunks .exit)) ≡ call (add-bitfield symbol width) (world a (now (placed .entry)) (now (chunks .entry))) ⌝ }
 {
     let number = bits_number(a, placed, chunks, width);
@@ -153,7 +159,11 @@ pub fn add_bitfield(a: Aligner, placed: &mut [u64], chunks: &mut [u64], symbol: 
     if is_due(total) {
         let after = a.chunks + 1;
         let count = next - a.start;
-        put_chunk(chunks, a.chunks, [1, a.start as u64, count as u64, total, 0]);
+        put_chunk(
+            chunks,
+            a.chunks,
+            [1, a.start as u64, count as u64, total, 0],
+        );
         return Called {
             number,
             state: Aligner {
@@ -176,7 +186,13 @@ pub fn add_bitfield(a: Aligner, placed: &mut [u64], chunks: &mut [u64], symbol: 
 }
 
 // One chunk of bytes of a known width.
-pub fn add_bytes(a: Aligner, placed: &mut [u64], chunks: &mut [u64], symbol: u64, width: u64) -> Called
+pub fn add_bytes(
+    a: Aligner,
+    placed: &mut [u64],
+    chunks: &mut [u64],
+    symbol: u64,
+    width: u64,
+) -> Called
     ensures { λ r. ⌜ called r (now (placed .exit)) (now (chunks .exit)) ≡ call (add-bytes symbol width) (world a (now (placed .entry)) (now (chunks .entry))) ⌝ }
 {
     let number = bytes_number(a, placed, chunks, width);

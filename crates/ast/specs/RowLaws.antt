@@ -74,6 +74,11 @@ puts-append size k (a ∷ xs) ys t =
     let e : k + 1 + length xs ≡ k + suc (length xs) = omega arith in
     rw (← e) (puts-append size (k + 1) xs ys (put size k a t))
 
+-- one row more
+pub puts-next : (size : ℕ) (xs : List (List ℕ)) (r t : List ℕ) → puts size 0 (xs ++ (r ∷ [])) t ≡ put size (length xs) r (puts size 0 xs t)
+unfolding puts
+puts-next size xs r t = puts-append size 0 xs (r ∷ []) t ∙ rw zero-add
+
 -- what holds of the row in its place, and of the table as it came, holds of the table with the row put
 put-cases : (P : List ℕ → Type 0) (size k : ℕ) (row t : List ℕ)
     → (k * size + size ≤ length t → P (take (k * size) t ++ row ++ drop (k * size + size) t)) → P t → P (put size k row t)

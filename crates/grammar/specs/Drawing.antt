@@ -60,7 +60,7 @@ leaf {m} {g} {t} {r} {k} e s =
       steps = s;
       draws = λ h o.
           e (o + taken m) (drop (taken m) t) (part-hit m g t r s h)
-          ∙ ap (λ (n : ℕ). tree k (o + taken m) n nil nil) (part-taken m g t r s h)
+          ∙ ap (λ (n : ℕ). tree k (o + taken m) n nil nil) (part-taken m g t r s h);
     }
 
 -- ---- one part after another
@@ -89,7 +89,17 @@ noted {g} {t} {r} {w} k c d =
       reads = named k (d .reads);
       draws = λ h o.
           nodes-rule k (bytewise g) o t c (ap hit (sym (d .reads .is)) ∙ h)
-          ∙ ap₂ (λ (n : ℕ) (v : Forest). tree k o n v nil) (ap taken (sym (d .reads .is))) (d .draws h o)
+          ∙ ap₂ (λ (n : ℕ) (v : Forest). tree k o n v nil) (ap taken (sym (d .reads .is))) (d .draws h o);
+    }
+
+pub node : {m : Match} {g : Peg} {t : List ℕ} {r : Match} {w : ℕ → Forest} (k : Rule) → is Rule.COMMENT k ≡ false → Follows m g t r w
+    → Follows m (rule k g) t r (λ o. tree k (o + taken m) (taken r - taken m) (w o) nil)
+node {m} {g} {t} {r} {w} k c f =
+    record {
+      steps = marked k (f .steps);
+      draws = λ h o.
+          nodes-rule k (bytewise g) (o + taken m) (drop (taken m) t) c (part-hit m g t r (f .steps) h)
+          ∙ ap₂ (λ (n : ℕ) (v : Forest). tree k (o + taken m) n v nil) (part-taken m g t r (f .steps) h) (f .draws h o);
     }
 
 -- ---- a part that may be missing
@@ -117,7 +127,7 @@ maybe {m} {g} {t} {x} {r} {w} i f e =
           nodes-opt (bytewise g) (o + taken m) (drop (taken m) t)
           ∙ pick-by _ _ _ _ nil
           (sym (after-hit m (λ u. run (bytewise g) u) t (stay-hit m x (ap hit (sym e) ∙ h))) ∙ ap hit (sym (f .steps .is)))
-          (λ z. f .draws z o)
+          (λ z. f .draws z o);
     }
 
 -- ---- a choice, from the start
@@ -127,7 +137,7 @@ first {a} {b} {t} {x} {v} n f d e =
       reads = choice (d .reads) (record { is = rw e; fits = d .reads .fits });
       draws = λ h o.
           nodes-alt (bytewise a) (bytewise b) o t
-          ∙ pick-by _ true _ _ (nodes (bytewise b) o t) (ap hit (sym (d .reads .is) ∙ e)) (λ z. d .draws h o)
+          ∙ pick-by _ true _ _ (nodes (bytewise b) o t) (ap hit (sym (d .reads .is) ∙ e)) (λ z. d .draws h o);
     }
 
 pick-not : (b : Bool) (v w : Forest) → b ≡ false → pick b v w ≡ w
@@ -145,7 +155,7 @@ second {a} {b} {t} {x} {y} {r} {w} f d e k q =
       draws = λ h o.
           nodes-alt (bytewise a) (bytewise b) o t
           ∙ pick-not _ _ _ (ap hit (sym (d .is) ∙ e))
-          ∙ k .draws (sym (hit-join 0 f y) ∙ ap hit (sym q) ∙ h) o
+          ∙ k .draws (sym (hit-join 0 f y) ∙ ap hit (sym q) ∙ h) o;
     }
 
 -- ---- a choice, from a match
@@ -172,7 +182,7 @@ one {m} {a} {b} {t} {x} {v} k g f e =
       steps = record { is = e ∙ alt-hit m (λ u. run (bytewise a) u) (λ u. run (bytewise b) u) t k g (sym (f .steps .is) ∙ e); fits = f .steps .fits };
       draws = λ h o.
           nodes-alt (bytewise a) (bytewise b) (o + taken m) (drop (taken m) t)
-          ∙ pick-by _ true _ _ _ (part-hit m a t x (f .steps) h) (λ z. f .draws h o)
+          ∙ pick-by _ true _ _ _ (part-hit m a t x (f .steps) h) (λ z. f .draws h o);
     }
 
 -- a missed where m had come, and b goes on from there
@@ -191,15 +201,18 @@ other {m} {a} {b} {t} {x} {y} {r} {w} g s e q f =
       steps =
           record {
             is = f .steps .is ∙ ap (λ (z : Match). after z (λ u. run (bytewise b) u) t) (q ∙ ap (stay m) e) ∙ alt-miss m (λ u. run (bytewise a) u) (λ u. run (bytewise b) u) t g (sym (s .is) ∙ e);
-            fits = f .steps .fits
+            fits = f .steps .fits;
           };
       draws = λ h o.
           nodes-alt (bytewise a) (bytewise b) (o + taken m) (drop (taken m) t)
           ∙ pick-not _ _ _ (missed-part m (λ u. run (bytewise a) u) t g (stay-hit m x (ap hit (sym q) ∙ hit-before y (λ u. run (bytewise b) u) t (ap hit (sym (f .steps .is)) ∙ h))) (sym (s .is) ∙ e))
           ∙ ap (λ (i : ℕ). nodes (bytewise b) (o + i) (drop i t)) j
-          ∙ f .draws h o
+          ∙ f .draws h o;
     }
 
 -- ---- the same nodes, told otherwise
+pub retold : {m : Match} {g : Peg} {t : List ℕ} {r : Match} {v w : ℕ → Forest} → Follows m g t r v → (hit r ≡ true → (o : ℕ) → v o ≡ w o) → Follows m g t r w
+retold f e = record { steps = f .steps; draws = λ h o. f .draws h o ∙ e h o }
+
 pub redrawn : {g : Peg} {t : List ℕ} {r : Match} {v w : ℕ → Forest} → Draws g t r v → (hit r ≡ true → (o : ℕ) → v o ≡ w o) → Draws g t r w
 redrawn d e = record { reads = d .reads; draws = λ h o. d .draws h o ∙ e h o }

@@ -7,3 +7,4 @@ pub mod Bytewise
 pub mod Steps
 pub mod Nodes
 pub mod Drawing
+pub mod Lists

@@ -81,7 +81,7 @@ module _ (l t : List ℕ) (i : ℕ) (m : Match) (h : Reads (lit l) (take (length
   upto-hit k g e = start (rest-done 0 refl (omega arith) v (goes (Missed 0) (turn-hit l (drop i t) (lit-hit l (drop i t) m k g (at i t h) e))) refl refl)
 
   pub upto-end : (g : ℕ) → m ≡ Missed g → i ≡ length t → Reads (star (before l)) t (Took i (i + 1))
-  upto-end g e q = start (rest-done (i + 1) refl (omega arith) v (goes (Missed 1) (turn-end l (drop i t) (lit-not l (drop i t) m g (at i t h) e) (omega (arith, length-drop i t)))) refl refl)
+  upto-end g e q = start (rest-done (i + 1) refl (omega arith) v (goes (Missed 1) (turn-end l (drop i t) (lit-not l (drop i t) m g (at i t h) e) (omega (arith, length-drop i t)))) (ap Missed (omega arith)) (ap (λ (k : ℕ). Took i k) (omega arith)))
 
   pub upto-more : (g : ℕ) → m ≡ Missed g → i < length t → Rest (before l) t (Took 0 0) (Took (i + 1) 0)
   upto-more g e q = rest-more (i + 1) 0 refl v (goes (Took 1 0) (turn-one l (drop i t) (lit-not l (drop i t) m g (at i t h) e) (omega (arith, length-drop i t)))) refl

@@ -188,17 +188,18 @@ white (x ∷ t) = pick (eqb 32 x) (Took 1 0) (pick (spaceb x) (Took 1 1) (Missed
 white-is : (t : List ℕ) → run (bytewise WHITESPACE) t ≡ white t
 unfolding run WHITESPACE white
 white-is [] = refl
-white-is (x ∷ t) = go (eqb 32 x) (eqb 10 x) (eqb 13 x) (eqb 9 x)
+white-is (x ∷ t) = go (eqb 32 x) (eqb 10 x) (eqb 13 x) (eqb 9 x) (λ u. run (lit (10 ∷ [])) u) (λ u. run (lit (13 ∷ [])) u) (λ u. run (lit (9 ∷ [])) u) refl refl refl
   where
     one : Bool → Match
     one d = pick (both d true) (Took 1 0) (Missed 1)
 
-    go : (a b c d : Bool) → orElse (orElse (orElse (one a) (λ u. one b) (x ∷ t)) (λ u. one c) (x ∷ t)) (λ u. one d) (x ∷ t) ≡ pick a (Took 1 0) (pick (either (either (either a b) c) d) (Took 1 1) (Missed 1))
-    go true b c d = refl
-    go false true c d = refl
-    go false false true d = refl
-    go false false false true = refl
-    go false false false false = refl
+    go : (a b c d : Bool) (p q r : List ℕ → Match) → p (x ∷ t) ≡ one b → q (x ∷ t) ≡ one c → r (x ∷ t) ≡ one d
+        → orElse (orElse (orElse (one a) p (x ∷ t)) q (x ∷ t)) r (x ∷ t) ≡ pick a (Took 1 0) (pick (either (either (either a b) c) d) (Took 1 1) (Missed 1))
+    go true b c d p q r hp hq hr = refl
+    go false true c d p q r hp hq hr = rw hp
+    go false false true d p q r hp hq hr = rw (hp, hq)
+    go false false false true p q r hp hq hr = rw (hp, hq, hr)
+    go false false false false p q r hp hq hr = rw (hp, hq, hr)
 
 pub white-none : (t : List ℕ) → length t ≡ 0 → Reads WHITESPACE t (Missed 1)
 unfolding white

@@ -96,7 +96,7 @@ unfolding run skip
 walk-start {t} {n} h =
     record {
       fits = h .fits;
-      left = ap (λ (m : Match). hushed (after m (λ u. run (star noted) u) t)) (star-one Space t ∙ ap (λ (j : ℕ). Took j (suc j)) (sym (h .is))) ∙ hush-join n (suc n) (run (star noted) (drop n t))
+      left = ap (λ (m : Match). hushed (after m (λ u. run (star noted) u) t)) (star-one Space t ∙ ap (λ (j : ℕ). Took j (suc j)) (sym (h .is))) ∙ hush-join n (suc n) (run (star noted) (drop n t));
     }
 
 eats-noted : eats noted ≡ true
@@ -116,9 +116,9 @@ module _ {t : List ℕ} {n : ℕ} {m : Match} (w : Walked t n) (h : Reads COMMEN
   pub walk-done : (g : ℕ) → m ≡ Missed g → Skips t n
   walk-done g e =
       let q : run (bytewise skip) t ≡ Took n 0 =
-          w .left
-          ∙ ap (λ (x : Match). hushed (join n 0 x)) (unroll noted eats-noted (drop n t) ∙ ap (λ (x : Match). again x (λ u. run (star noted) u) (drop n t)) (turn-is ∙ ap (λ (x : Match). after x (λ u. run (star (bytewise WHITESPACE)) u) (drop n t)) e))
-          ∙ ap (λ (k : ℕ). Took k 0) (omega arith)
+      w .left
+      ∙ ap (λ (x : Match). hushed (join n 0 x)) (unroll noted eats-noted (drop n t) ∙ ap (λ (x : Match). again x (λ u. run (star noted) u) (drop n t)) (turn-is ∙ ap (λ (x : Match). after x (λ u. run (star (bytewise WHITESPACE)) u) (drop n t)) e))
+      ∙ ap (λ (k : ℕ). Took k 0) (omega arith)
       in record { is = q; fits = w .fits }
 
   -- a comment of k bytes follows: it takes a byte, and stays inside
@@ -134,12 +134,12 @@ module _ {t : List ℕ} {n : ℕ} {m : Match} (w : Walked t n) (h : Reads COMMEN
       record {
         fits = let a : n + k ≤ length t = comment-fits k g e in let b : j ≤ length (drop (n + k) t) = subst (λ (u : List ℕ). j ≤ length u) (rest-is (n + k) t) (r .fits) in omega (arith, length-drop (n + k) t);
         left =
-          w .left
-          ∙ ap (λ (x : Match). hushed (join n 0 x))
-          (unroll noted eats-noted (drop n t)
-          ∙ ap (λ (x : Match). again x (λ u. run (star noted) u) (drop n t))
-          (turn-is ∙ ap (λ (x : Match). after x (λ u. run (star (bytewise WHITESPACE)) u) (drop n t)) e
-          ∙ ap (λ (x : Match). join k g x) (ap (λ (u : List ℕ). run (star (bytewise WHITESPACE)) u) (drop-drop k n t) ∙ spaces-at (n + k) t r)))
-          ∙ hush-ahead n 0 (k + j) (max g (lift k (suc j))) (run (star noted) (drop (k + j) (drop n t)))
-          ∙ ap₂ (λ (i : ℕ) (u : List ℕ). hushed (join i 0 (run (star noted) u))) (omega arith) (drop-drop (k + j) n t ∙ ap (λ (i : ℕ). drop i t) (omega arith))
+            w .left
+            ∙ ap (λ (x : Match). hushed (join n 0 x))
+            (unroll noted eats-noted (drop n t)
+            ∙ ap (λ (x : Match). again x (λ u. run (star noted) u) (drop n t))
+            (turn-is ∙ ap (λ (x : Match). after x (λ u. run (star (bytewise WHITESPACE)) u) (drop n t)) e
+            ∙ ap (λ (x : Match). join k g x) (ap (λ (u : List ℕ). run (star (bytewise WHITESPACE)) u) (drop-drop k n t) ∙ spaces-at (n + k) t r)))
+            ∙ hush-ahead n 0 (k + j) (max g (lift k (suc j))) (run (star noted) (drop (k + j) (drop n t)))
+            ∙ ap₂ (λ (i : ℕ) (u : List ℕ). hushed (join i 0 (run (star noted) u))) (omega arith) (drop-drop (k + j) n t ∙ ap (λ (i : ℕ). drop i t) (let z : n + (k + j) ≡ n + k + j = omega arith in z));
       }

@@ -42,7 +42,10 @@ fn between(lo: u8, hi: u8, b: u8) -> bool
 pub fn is_space(b: u8) -> bool
     ensures { λ r. ⌜ r ≡ spaceb b ⌝ }
 {
-    or(or(or(same(b' ', b), same(b'\n', b)), same(b'\r', b)), same(b'\t', b))
+    or(
+        or(or(same(b' ', b), same(b'\n', b)), same(b'\r', b)),
+        same(b'\t', b),
+    )
 }
 
 // A letter.
@@ -70,7 +73,10 @@ pub fn is_alphanum(b: u8) -> bool
 pub fn is_hexdigit(b: u8) -> bool
     ensures { λ r. ⌜ r ≡ hexb b ⌝ }
 {
-    or(or(is_digit(b), between(b'a', b'f', b)), between(b'A', b'F', b))
+    or(
+        or(is_digit(b), between(b'a', b'f', b)),
+        between(b'A', b'F', b),
+    )
 }
 
 // Whether b is of the class.

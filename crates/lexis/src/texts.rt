@@ -59,9 +59,9 @@ pub fn then_up_to(s: &[u8], m: Match, l: &[u8]) -> Match
     }
 }
 
-// The text open, all bytes before the first close, and close: a block comment, a string.
-pub fn enclosed(s: &[u8], open: &[u8], close: &[u8]) -> Match
-    ensures { λ r. ⌜ Reads (seq (seq (lit (now (open .entry))) (star (seq (neg (lit (now (close .entry)))) any))) (lit (now (close .entry)))) (now (s .entry)) r ⌝ }
+// The text opening, all bytes before the first closing, and closing: a block comment, a string.
+pub fn enclosed(s: &[u8], opening: &[u8], closing: &[u8]) -> Match
+    ensures { λ r. ⌜ Reads (seq (seq (lit (now (opening .entry))) (star (seq (neg (lit (now (closing .entry)))) any))) (lit (now (closing .entry)))) (now (s .entry)) r ⌝ }
 {
-    then_literal(s, then_up_to(s, literal(s, open), close), close)
+    then_literal(s, then_up_to(s, literal(s, opening), closing), closing)
 }

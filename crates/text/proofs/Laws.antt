@@ -9,12 +9,12 @@ use native.Mathlib.Omega.{arith}
 use borrow.Author.Tests.{eq-eqb, ne-eqb, le-leb, lt-leb, lt-ltb, le-ltb}
 use lib.ListN.{length, getD, drop, replicate, length-drop, drop-of-length-le}
 use lib.Seq.{drop-cons, drop-drop}
-use lib.Dec.{ltb, leb, eqb}
-use Rattle.meaning.specs.declared.Converted.{Converted}
+use lib.Dec.{leb, eqb}
 use Rattle.meaning.specs.declared.Converted.the-variants.{Value, Empty, BadDigit, TooLarge}
 use Rattle.meaning.specs.Choice.{pick, both}
 use Rattle.meaning.specs.Utf8.{Octet, _to_, tail, holds, has, forms, character, valid}
 use Rattle.meaning.specs.Convert.{digitOf, digits, some, radix, convert}
+use Rattle.text.specs.ChoiceLaws.{both-yes}
 use Rattle.text.specs.Utf8Laws.{octets, holds-under, has-step, has-end, has-fits, ascends, top, by-form, by-none, character-fits, character-none, valid-step, valid-stop, valid-fits}
 
 -- ---- one octet at i
@@ -26,11 +26,7 @@ module _ (least most : ℕ) (s : List ℕ) (i : ℕ) where
   octet-under h k = sym (has-step (least to most) [] s i h ∙ rw (holds-under (least to most) (getD s i 0) k))
 
   pub octet-upto : i < length s → least ≤ getD s i 0 → leb (getD s i 0) most ≡ has (octets least most 0) (drop i s)
-  octet-upto h k = sym (has-step (least to most) [] s i h ∙ rw (le-leb _ _ k) (last (leb (getD s i 0) most)))
-    where
-      last : (b : Bool) → both b true ≡ b
-      last true = refl
-      last false = refl
+  octet-upto h k = sym (has-step (least to most) [] s i h ∙ rw (le-leb _ _ k) (both-yes (leb (getD s i 0) most)))
 
   pub octet-inside : (g : Bool) → g ≡ has (octets least most 0) (drop i s) → g ≡ true → i < length s
   octet-inside g e k = omega (arith, has-fits (octets least most 0) (drop i s) (sym e ∙ k), length-drop i s)
@@ -39,11 +35,7 @@ module _ (least most : ℕ) (s : List ℕ) (i : ℕ) where
 module _ (r : Octet) (rs : List Octet) (s : List ℕ) (j : ℕ) (g : Bool) (e : g ≡ has (r ∷ []) (drop j s)) where
   first-of : (t : List ℕ) → has (r ∷ rs) t ≡ both (has (r ∷ []) t) (has rs (drop 1 t))
   first-of [] = refl
-  first-of (x ∷ t) = by (holds r x) (has rs t)
-    where
-      by : (a b : Bool) → both a b ≡ both (both a true) b
-      by true b = refl
-      by false b = refl
+  first-of (x ∷ t) = rw (both-yes (holds r x))
 
   pub octet-missed : g ≡ false → has (r ∷ rs) (drop j s) ≡ false
   octet-missed k = first-of (drop j s) ∙ rw (sym e ∙ k)

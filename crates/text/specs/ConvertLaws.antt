@@ -1,16 +1,17 @@
 -- Laws of the converter: a value is below 2 ^ 64, and what each kind of text converts to.
-use Prim.Native.Nat.{ℕ, zero, suc, _+_, _-_, _*_, _^_, _≤_, _<_}
-use mathlib.Core.Path.{_≡_, refl, ap, sym, _∙_}
+use Prim.Native.Nat.{ℕ, _+_, _-_, _*_, _^_, _≤_, _<_}
+use mathlib.Core.Path.{_≡_, refl}
 use mathlib.Core.List.{List, [], _∷_}
 use mathlib.Core.Bool.{Bool, true, false}
 use mathlib.Core.Logic.{_⊎_, inl, inr}
 use native.Mathlib.Omega.{arith}
-use borrow.Author.Tests.{eq-eqb, ne-eqb, lt-leb, le-leb, ltb-true, eqb-true}
+use borrow.Author.Tests.{ne-eqb, lt-leb, ltb-true, eqb-true}
 use lib.Dec.{ltb, leb, eqb}
 use Rattle.meaning.specs.declared.Converted.{Converted}
 use Rattle.meaning.specs.declared.Converted.the-variants.{Value, Empty, BadDigit, TooLarge}
 use Rattle.meaning.specs.Choice.{pick, both}
 use Rattle.meaning.specs.Convert.{digitOf, digits, some, radix, convert, reasonOf, valueOf}
+use Rattle.text.specs.ChoiceLaws.{both-is, both-false}
 
 -- ---- a value is below 2 ^ 64
 unfoldable pub Small : Converted → Type 0
@@ -85,17 +86,13 @@ radix-good : (base b : ℕ) (bs : List ℕ) → base ≤ 36 → Digits base (b �
 unfolding Digits
 radix-good base b bs k h = rw (ne-eqb b 43 (no-sign base b k (h .0))) (digits-good base (b ∷ bs) 0 h)
 
--- the prefix is no decimal
-both-not : (a b : Bool) → b ≡ false → both a b ≡ false
-both-not true b e = e
-both-not false b e = refl
-
+-- what holds an `x` is no decimal
 pub convert-decimal : (b : ℕ) (bs : List ℕ) → Digits 10 (b ∷ bs) → convert (b ∷ bs) ≡ settled (number 10 (b ∷ bs) 0)
 unfolding Digits
 convert-decimal b [] h = radix-good 10 b [] (omega arith) h
 convert-decimal b (x ∷ bs) h =
     let e : (x ≡ 120 → ⊥) = λ q. (let d : digitOf x ≡ 33 = rw q in omega (arith, h .1 .0)) in
-    rw (both-not (eqb b 48) (eqb x 120) (ne-eqb x 120 e)) (radix-good 10 b (x ∷ bs) (omega arith) h)
+    rw (ne-eqb x 120 e, both-false (eqb b 48)) (radix-good 10 b (x ∷ bs) (omega arith) h)
 
 pub convert-hex : (b : ℕ) (bs : List ℕ) → Digits 16 (b ∷ bs) → convert (48 ∷ 120 ∷ b ∷ bs) ≡ settled (number 16 (b ∷ bs) 0)
 convert-hex b bs h = radix-good 16 b bs (omega arith) h
@@ -116,9 +113,6 @@ convert-nothing = refl
 
 pub convert-prefix : convert (48 ∷ 120 ∷ []) ≡ Empty
 convert-prefix = refl
-
-never : {A : Type 0} (c : Converted) → (reasonOf c ≡ 1 → ⊥) → c ≡ Empty → A
-never c f e = absurd (f (ap reasonOf e))
 
 full-pick : (b : Bool) (c d : Converted) → (reasonOf c ≡ 1 → ⊥) → (reasonOf d ≡ 1 → ⊥) → reasonOf (pick b c d) ≡ 1 → ⊥
 full-pick true c d f g = f
@@ -142,17 +136,13 @@ prefix-empty true [] d f e = (refl, refl)
 prefix-empty true (b ∷ s) d f e = absurd (radix-full 16 b s e)
 prefix-empty false s d f e = absurd (f e)
 
-both-true : (a b : Bool) → both a b ≡ true → (a ≡ true) × (b ≡ true)
-both-true true b e = (refl, e)
-both-true false b e = absurd (let z : _≡_ {A = ℕ} 0 1 = cc in omega arith)
-
 -- reason 1 is nothing at all, or the prefix alone
 pub only-empty : (s : List ℕ) → reasonOf (convert s) ≡ 1 → (s ≡ []) ⊎ (s ≡ 48 ∷ 120 ∷ [])
 only-empty [] e = inl refl
 only-empty (a ∷ []) e = absurd (radix-full 10 a [] e)
 only-empty (a ∷ b ∷ s) e =
     let p = prefix-empty (both (eqb a 48) (eqb b 120)) s (radix 10 (a ∷ b ∷ s)) (radix-full 10 a (b ∷ s)) e in
-    let q = both-true (eqb a 48) (eqb b 120) (p .0) in
+    let q = both-is (eqb a 48) (eqb b 120) (p .0) in
     let x : a ≡ 48 = eqb-true a 48 (q .0) in
     let y : b ≡ 120 = eqb-true b 120 (q .1) in
     inr (rw (x, y, p .1))

@@ -1,13 +1,13 @@
 -- Laws of places: one byte more, the bounds of a place, and SourceLocation::new over the source's own starts of lines.
 use Prim.Native.Nat.{ℕ, zero, suc, _+_, _-_, _≤_, _<_}
-use mathlib.Core.Path.{_≡_, refl, ap, sym, _∙_}
+use mathlib.Core.Path.{_≡_, refl, ap, _∙_}
 use mathlib.Core.List.{List, [], _∷_, _++_}
 use mathlib.Core.Bool.{Bool, true, false}
 use native.Mathlib.Numerals.{add-one}
 use native.Mathlib.Omega.{arith}
 use borrow.Author.Tests.{lt-ltb, le-ltb, eq-eqb, ne-eqb}
 use lib.ListN.{length, getD, take}
-use lib.Seq.{take-suc, take-add, length-take-le}
+use lib.Seq.{take-suc, length-take-le}
 use lib.Dec.{eqb}
 use Rattle.meaning.specs.declared.SourceLocation.{SourceLocation}
 use Rattle.meaning.specs.Choice.{pick}

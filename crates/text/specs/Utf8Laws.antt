@@ -5,31 +5,24 @@ use mathlib.Core.List.{List, [], _∷_}
 use mathlib.Core.Bool.{Bool, true, false}
 use native.Mathlib.Numerals.{add-one}
 use native.Mathlib.Omega.{arith}
-use borrow.Author.Tests.{le-leb, lt-leb, leb-true, leb-false}
+use borrow.Author.Tests.{le-leb, lt-leb, leb-true}
 use lib.ListN.{length, getD, drop, replicate, length-drop, drop-of-length-le}
 use lib.Seq.{drop-cons}
 use lib.Dec.{leb}
 use Rattle.meaning.specs.Choice.{pick, both}
 use Rattle.meaning.specs.Utf8.{Octet, _to_, tail, holds, has, formed, forms, character, onward, validFor, valid}
+use Rattle.text.specs.ChoiceLaws.{never, both-is, both-false}
 
 -- an octet from least to most, and then n tails: what follows the first byte of a wide form
 abbrev pub octets : ℕ → ℕ → ℕ → List Octet
 octets least most n = (least to most) ∷ replicate n tail
 
--- ---- two tests at once
-pub both-is : (a b : Bool) → both a b ≡ true → (a ≡ true) × (b ≡ true)
-both-is true b e = (refl, e)
-both-is false b e = (e, absurd (let z : _≡_ {A = ℕ} 0 1 = cc in omega arith))
-
+-- ---- one octet
 pub holds-in : (r : Octet) (x : ℕ) → r .least ≤ x → x ≤ r .most → holds r x ≡ true
 holds-in r x l m = simp (le-leb _ _ l, le-leb _ _ m)
 
 pub holds-under : (r : Octet) (x : ℕ) → x < r .least → holds r x ≡ false
 holds-under r x h = simp (lt-leb _ _ h)
-
-both-false : (a : Bool) → both a false ≡ false
-both-false true = refl
-both-false false = refl
 
 pub holds-over : (r : Octet) (x : ℕ) → r .most < x → holds r x ≡ false
 holds-over r x h = rw (lt-leb _ _ h) (both-false (leb (r .least) x))
@@ -55,7 +48,7 @@ head-of m r rs fs e =
 -- no form begins with so low a byte
 pub under : (fs : List (List Octet)) (m x : ℕ) (t : List ℕ) → ascends m fs ≡ true → x < m → formed fs (x ∷ t) ≡ 0
 under [] m x t e h = refl
-under ([] ∷ fs) m x t e h = absurd (let z : _≡_ {A = ℕ} 0 1 = cc in omega arith)
+under ([] ∷ fs) m x t e h = never e
 under ((r ∷ rs) ∷ fs) m x t e h =
     let k = head-of m r rs fs e in
     rw (holds-under r x (omega arith)) (under fs (r .most + 1) x t (k .rest) (omega arith))
@@ -79,7 +72,7 @@ pub past : (k : ℕ) (fs : List (List Octet)) (m x : ℕ) (t : List ℕ) → asc
     → formed fs (x ∷ t) ≡ formed (drop k fs) (x ∷ t)
 past zero fs m x t e h = refl
 past (suc k) [] m x t e h = refl
-past (suc k) ([] ∷ fs) m x t e h = absurd (let z : _≡_ {A = ℕ} 0 1 = cc in omega arith)
+past (suc k) ([] ∷ fs) m x t e h = never e
 past (suc k) ((r ∷ rs) ∷ fs) m x t e h =
     let q = head-of m r rs fs e in
     rw (holds-over r x (omega (arith, top-up k (r .most + 1) fs (q .rest)))) (past k fs (r .most + 1) x t (q .rest) h)
@@ -117,7 +110,7 @@ module _ (r : Octet) (rs : List Octet) (s : List ℕ) (i : ℕ) where
 -- ---- lengths
 pub has-fits : (f : List Octet) (t : List ℕ) → has f t ≡ true → length f ≤ length t
 has-fits [] t e = omega arith
-has-fits (r ∷ rs) [] e = absurd (let z : _≡_ {A = ℕ} 0 1 = cc in omega arith)
+has-fits (r ∷ rs) [] e = never e
 has-fits (r ∷ rs) (x ∷ t) e = omega (arith, has-fits rs t (both-is (holds r x) (has rs t) e .1))
 
 pick-fits : (b : Bool) (m n l : ℕ) → (b ≡ true → m ≤ l) → n ≤ l → pick b m n ≤ l
@@ -178,7 +171,7 @@ unfolding validFor
 valid-onward t =
     fuel (length t) (suc (length t)) t (omega arith) (omega arith)
     ∙ onward-same (character t) (λ u. validFor (length t) u) (λ u. valid u) t
-      (λ m e. fuel (length t) (length (drop (character t) t)) (drop (character t) t) (omega (arith, length-drop (character t) t)) (omega arith))
+    (λ m e. fuel (length t) (length (drop (character t) t)) (drop (character t) t) (omega (arith, length-drop (character t) t)) (omega arith))
 
 pub valid-step : (t : List ℕ) (n : ℕ) → character t ≡ suc n → valid t ≡ suc n + valid (drop (suc n) t)
 valid-step t n e = valid-onward t ∙ rw e

@@ -30,15 +30,13 @@ fn followed(s: &[u8], i: usize, n: usize, least: u8, most: u8) -> usize
     ensures { λ r. ⌜ r ≡ pick (has (octets least most n) (drop (i + 1) (now (s .entry)))) (n + 2) 0 ⌝ }
 {
     let second = octet(s, i + 1, least, most);
-    if second {
-    } else {
+    if second {} else {
         return 0;
     }
     let mut k: usize = 0;
     while k < n {
         let good = octet(s, i + 2 + k, 0x80, 0xBF);
-        if good {
-        } else {
+        if good {} else {
             return 0;
         }
         k += 1;

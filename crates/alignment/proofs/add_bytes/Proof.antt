@@ -6,42 +6,26 @@ use Rattle.alignment.proofs.Laws.{bytes-refused, bytes-chunk}
 use borrow.Author.Needs.{needs}
 use Rattle.alignment.proofs.add_bytes.Statement.{statement}
 use Rattle.alignment.proofs.add_bytes.Tie as tie
-use Rattle.alignment.proofs.add_bytes.Reads as reads
-use Rattle.alignment.proofs.add_bytes.Lts as lts
-use Rattle.alignment.proofs.bytes_number.Reads as bytes-number-reads
-use Rattle.alignment.proofs.put_chunk.Reads as put-chunk-reads
 
 -- src/lib.rt:181:9
-bytes-number-requires : tie.Need-bytes-number-requires
-bytes-number-requires c κs = search needs
 
 -- src/lib.rt:183:9
-same-length : tie.Need-same-length
-same-length c = search needs
 
 -- src/lib.rt:183:9
-same-length-2 : tie.Need-same-length-2
-same-length-2 c = search needs
 
 -- src/lib.rt:183:9
 returns : tie.Need-returns
 returns c = bytes-refused _ _ _ _ _ _ (c .before .bytes-number .ensures) (c .if1 .taken)
 
 -- src/lib.rt:185:5
-put-chunk-requires : tie.Need-put-chunk-requires
-put-chunk-requires c κs = search needs
 
 -- src/lib.rt:190:21
 add-t16 : tie.Need-add-t16
 add-t16 c = omega (arith, bytes-fit _ _ (sym (c .before .before .before .before .before .before .bytes-number .ensures) ∙ (c .before .before .before .before .before .if1 .left)) .chunk)
 
 -- src/lib.rt:178:1
-same-length-3 : tie.Need-same-length-3
-same-length-3 c = search needs
 
 -- src/lib.rt:178:1
-same-length-4 : tie.Need-same-length-4
-same-length-4 c = search needs
 
 -- src/lib.rt:178:1
 returns-2 : tie.Need-returns-2
@@ -50,13 +34,5 @@ returns-2 c = bytes-chunk _ _ _ _ _ _ (c .before .before .before .before .before
 pub add-bytes-spec : {M : Type 1} → statement M
 add-bytes-spec =
     tie.close
-    (tie.spec
-    bytes-number-requires
-    same-length
-    same-length-2
-    returns
-    put-chunk-requires
-    add-t16
-    same-length-3
-    same-length-4
+    (tie.spec (λ c κs. search needs) (λ c. search needs) (λ c. search needs) returns (λ c κs. search needs) add-t16 (λ c. search needs) (λ c. search needs)
     returns-2)

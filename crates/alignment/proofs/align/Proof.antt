@@ -4,13 +4,8 @@ use Rattle.alignment.proofs.Laws.{end-refused, end-accepted}
 use borrow.Author.Needs.{needs}
 use Rattle.alignment.proofs.align.Statement.{statement}
 use Rattle.alignment.proofs.align.Tie as tie
-use Rattle.alignment.proofs.align.Reads as reads
-use Rattle.alignment.proofs.align.Lts as lts
-use Rattle.alignment.proofs.end_number.Reads as end-number-reads
 
 -- src/lib.rt:221:9
-end-number-requires : tie.Need-end-number-requires
-end-number-requires c κs = search needs
 
 -- src/lib.rt:223:9
 returns : tie.Need-returns
@@ -21,4 +16,4 @@ returns-2 : tie.Need-returns-2
 returns-2 c = end-accepted _ _ _ _ (c .before .end-number .ensures) (c .if1 .left)
 
 pub align-spec : {M : Type 1} → statement M
-align-spec = tie.close (tie.spec end-number-requires returns returns-2)
+align-spec = tie.close (tie.spec (λ c κs. search needs) returns returns-2)

@@ -4,14 +4,8 @@ use Rattle.alignment.proofs.Laws.{bits-18, narrow, bits-12, bits-13, bi
 use borrow.Author.Needs.{needs}
 use Rattle.alignment.proofs.bits_number.Statement.{statement}
 use Rattle.alignment.proofs.bits_number.Tie as tie
-use Rattle.alignment.proofs.bits_number.Reads as reads
-use Rattle.alignment.proofs.bits_number.Lts as lts
-use Rattle.alignment.proofs.is_due.Reads as is-due-reads
-use Rattle.alignment.proofs.sound_number.Reads as sound-number-reads
 
 -- src/lib.rt:60:12
-sound-number-requires : tie.Need-sound-number-requires
-sound-number-requires c κs = search needs
 
 -- src/lib.rt:61:9
 returns : tie.Need-returns
@@ -30,12 +24,8 @@ returns-3 : tie.Need-returns-3
 returns-3 c = bits-13 _ _ (c .before .before .before .before .before .sound-number .ensures) (omega arith) _ (omega arith) (omega arith)
 
 -- src/lib.rt:69:15
-add-is-due : tie.Need-add-is-due
-add-is-due c = search needs
 
 -- src/lib.rt:69:8
-is-due-requires : tie.Need-is-due-requires
-is-due-requires c κs = search needs
 
 -- src/lib.rt:71:13
 returns-4 : tie.Need-returns-4
@@ -52,14 +42,4 @@ returns-6 c = bits-0′ _ _ (c .before .before .before .before .before .before .
 pub bits-number-spec : {M : Type 1} → statement M
 bits-number-spec =
     tie.close
-    (tie.spec
-    sound-number-requires
-    returns
-    sub-if2
-    returns-2
-    returns-3
-    add-is-due
-    is-due-requires
-    returns-4
-    returns-5
-    returns-6)
+    (tie.spec (λ c κs. search needs) returns sub-if2 returns-2 returns-3 (λ c. search needs) (λ c κs. search needs) returns-4 returns-5 returns-6)

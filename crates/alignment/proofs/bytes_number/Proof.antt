@@ -4,13 +4,8 @@ use Rattle.alignment.proofs.Laws.{bytes-18, bytes-10, bytes-11, bytes-1
 use borrow.Author.Needs.{needs}
 use Rattle.alignment.proofs.bytes_number.Statement.{statement}
 use Rattle.alignment.proofs.bytes_number.Tie as tie
-use Rattle.alignment.proofs.bytes_number.Reads as reads
-use Rattle.alignment.proofs.bytes_number.Lts as lts
-use Rattle.alignment.proofs.sound_number.Reads as sound-number-reads
 
 -- src/lib.rt:81:12
-sound-number-requires : tie.Need-sound-number-requires
-sound-number-requires c κs = search needs
 
 -- src/lib.rt:82:9
 returns : tie.Need-returns
@@ -39,4 +34,4 @@ returns-6 c = bytes-0 _ _ (c .before .before .before .before .before .before .be
 pub bytes-number-spec : {M : Type 1} → statement M
 bytes-number-spec =
     tie.close
-    (tie.spec sound-number-requires returns returns-2 returns-3 returns-4 returns-5 returns-6)
+    (tie.spec (λ c κs. search needs) returns returns-2 returns-3 returns-4 returns-5 returns-6)

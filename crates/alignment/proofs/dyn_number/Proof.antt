@@ -4,13 +4,8 @@ use Rattle.alignment.proofs.Laws.{dyn-18, dyn-10, dyn-13, dyn-0}
 use borrow.Author.Needs.{needs}
 use Rattle.alignment.proofs.dyn_number.Statement.{statement}
 use Rattle.alignment.proofs.dyn_number.Tie as tie
-use Rattle.alignment.proofs.dyn_number.Reads as reads
-use Rattle.alignment.proofs.dyn_number.Lts as lts
-use Rattle.alignment.proofs.sound_number.Reads as sound-number-reads
 
 -- src/lib.rt:103:12
-sound-number-requires : tie.Need-sound-number-requires
-sound-number-requires c κs = search needs
 
 -- src/lib.rt:104:9
 returns : tie.Need-returns
@@ -29,4 +24,4 @@ returns-4 : tie.Need-returns-4
 returns-4 c = dyn-0 _ _ (c .before .before .before .before .before .sound-number .ensures) (omega arith) (omega arith) (omega arith)
 
 pub dyn-number-spec : {M : Type 1} → statement M
-dyn-number-spec = tie.close (tie.spec sound-number-requires returns returns-2 returns-3 returns-4)
+dyn-number-spec = tie.close (tie.spec (λ c κs. search needs) returns returns-2 returns-3 returns-4)

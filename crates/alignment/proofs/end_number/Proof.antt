@@ -4,13 +4,8 @@ use Rattle.alignment.proofs.Laws.{end-18, end-16, end-0}
 use borrow.Author.Needs.{needs}
 use Rattle.alignment.proofs.end_number.Statement.{statement}
 use Rattle.alignment.proofs.end_number.Tie as tie
-use Rattle.alignment.proofs.end_number.Reads as reads
-use Rattle.alignment.proofs.end_number.Lts as lts
-use Rattle.alignment.proofs.sound_number.Reads as sound-number-reads
 
 -- src/lib.rt:119:12
-sound-number-requires : tie.Need-sound-number-requires
-sound-number-requires c κs = search needs
 
 -- src/lib.rt:120:9
 returns : tie.Need-returns
@@ -25,4 +20,4 @@ returns-3 : tie.Need-returns-3
 returns-3 c = end-0 _ _ (c .before .before .before .sound-number .ensures) (omega arith) (omega arith)
 
 pub end-number-spec : {M : Type 1} → statement M
-end-number-spec = tie.close (tie.spec sound-number-requires returns returns-2 returns-3)
+end-number-spec = tie.close (tie.spec (λ c κs. search needs) returns returns-2 returns-3)

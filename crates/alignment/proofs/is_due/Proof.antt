@@ -3,8 +3,6 @@ use native.Mathlib.Omega.{arith}
 use Rattle.alignment.proofs.Laws.{due-none, due-some}
 use Rattle.alignment.proofs.is_due.Statement.{statement}
 use Rattle.alignment.proofs.is_due.Tie as tie
-use Rattle.alignment.proofs.is_due.Reads as reads
-use Rattle.alignment.proofs.is_due.Lts as lts
 
 -- src/lib.rt:51:9
 returns : tie.Need-returns

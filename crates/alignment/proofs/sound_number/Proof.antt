@@ -3,8 +3,6 @@ use native.Mathlib.Omega.{arith}
 use Rattle.alignment.proofs.Laws.{sound-wide, sound-start, sound-placed, sound-chunks, sound-staged, sound-width, sound-bare}
 use Rattle.alignment.proofs.sound_number.Statement.{statement}
 use Rattle.alignment.proofs.sound_number.Tie as tie
-use Rattle.alignment.proofs.sound_number.Reads as reads
-use Rattle.alignment.proofs.sound_number.Lts as lts
 
 -- src/lib.rt:26:9
 returns : tie.Need-returns

@@ -23,9 +23,6 @@ some c = omega arith
 returns : tie.Need-returns Inv-loop μ-loop
 returns c = let a = c .before .args in sym (put-empty (a .k) (a .row .now) (a .t .now) (c .if1 .taken))
 
-div-if2 : tie.Need-div-if2 Inv-loop μ-loop
-div-if2 c = search needs
-
 mul-base : tie.Need-mul-base Inv-loop μ-loop
 mul-base c = omega (arith, fits-iff _ _ _ (some (c .before)) (c .if2 .taken))
 
@@ -35,27 +32,6 @@ loop-holds c =
       search needs,
       (fits-iff _ _ _ (some (c .before)) (c .if2 .taken), (refl, paste-zero (a .t .now) (a .k * length (a .row .now)) (a .row .now))),
     )
-
-mul-t : tie.Need-mul-t Inv-loop μ-loop
-mul-t c = search needs
-
-shared-slice-read-t : tie.Need-shared-slice-read-t Inv-loop μ-loop
-shared-slice-read-t c = search needs
-
-add-t : tie.Need-add-t Inv-loop μ-loop
-add-t c = search needs
-
-mul-t-2 : tie.Need-mul-t-2 Inv-loop μ-loop
-mul-t-2 c = search needs
-
-slice-write-t : tie.Need-slice-write-t Inv-loop μ-loop
-slice-write-t c = search needs
-
-add-i : tie.Need-add-i Inv-loop μ-loop
-add-i c = search needs
-
-loop-less : tie.Need-loop-less Inv-loop μ-loop
-loop-less c = search needs
 
 loop-again : tie.Need-loop-again Inv-loop μ-loop
 loop-again c =
@@ -87,21 +63,5 @@ returns-3 c = sym (put-short _ (c .before .before .args .k) _ _ (short-iff _ _ _
 pub put-row-spec : {M : Type 1} → statement M
 put-row-spec =
     tie.close
-    (tie.spec
-    Inv-loop
-    μ-loop
-    returns
-    div-if2
-    mul-base
-    loop-holds
-    mul-t
-    shared-slice-read-t
-    add-t
-    mul-t-2
-    slice-write-t
-    add-i
-    loop-less
-    loop-again
-    same-length
-    returns-2
-    returns-3)
+    (tie.spec Inv-loop μ-loop returns (λ c. search needs) mul-base loop-holds (λ c. search needs) (λ c. search needs) (λ c. search needs)
+    (λ c. search needs) (λ c. search needs) (λ c. search needs) (λ c. search needs) loop-again same-length returns-2 returns-3)

@@ -1,6 +1,6 @@
 -- `all_digits` meets its contract: the digits that are left, after those that said acc, say the whole.
 use Prim.Native.Nat.{_-_, _^_, _<_}
-use mathlib.Core.Path.{_≡_, refl, sym, _∙_, ap}
+use mathlib.Core.Path.{_≡_, refl, sym, _∙_}
 use native.Mathlib.Omega.{arith}
 use lib.ListN.{length, drop}
 use Rattle.meaning.specs.Convert.{digits}
@@ -8,10 +8,6 @@ use Rattle.text.proofs.Laws.{fits, turn-bad, turn-good, turn-over, digi
 use borrow.Author.Needs.{needs}
 use Rattle.text.proofs.all_digits.Statement.{statement}
 use Rattle.text.proofs.all_digits.Tie as tie
-use Rattle.text.proofs.all_digits.Reads as reads
-use Rattle.text.proofs.all_digits.Lts as lts
-use Rattle.text.proofs.beyond.Reads as beyond-reads
-use Rattle.text.proofs.to_digit.Reads as to-digit-reads
 
 abbrev Inv-loop : tie.InvT-loop
 Inv-loop s from base acc₀ i₀ acc i = (acc < 2 ^ 64) × (digits base (drop from s) 0 ≡ digits base (drop i s) acc)
@@ -22,26 +18,8 @@ abbrev μ-loop : tie.MeasureT-loop
 loop-holds : tie.Need-loop-holds Inv-loop μ-loop
 loop-holds c = (search needs, refl)
 
-shared-slice-read-to-digit : tie.Need-shared-slice-read-to-digit Inv-loop μ-loop
-shared-slice-read-to-digit c = search needs
-
-to-digit-requires : tie.Need-to-digit-requires Inv-loop μ-loop
-to-digit-requires c κs = search needs
-
 returns : tie.Need-returns Inv-loop μ-loop
 returns c = sym ((c .before .before .before .before .loop .inv .1) ∙ turn-bad _ _ (c .before .before .before .before .loop .i) _ _ (c .before .before .before .loop-test .taken) (c .before .to-digit .ensures) (c .if1 .taken))
-
-sub-if2 : tie.Need-sub-if2 Inv-loop μ-loop
-sub-if2 c = search needs
-
-div-if2 : tie.Need-div-if2 Inv-loop μ-loop
-div-if2 c = search needs
-
-add-beyond : tie.Need-add-beyond Inv-loop μ-loop
-add-beyond c = search needs
-
-beyond-requires : tie.Need-beyond-requires Inv-loop μ-loop
-beyond-requires c κs = search needs
 
 returns-2 : tie.Need-returns-2 Inv-loop μ-loop
 returns-2 c = (c .beyond .ensures) ∙ sym ((c .before .before .before .before .before .before .loop .inv .1) ∙ turn-over _ _ (c .before .before .before .before .before .before .loop .i) _ _ (c .before .before .before .before .before .loop-test .taken) (c .before .before .before .to-digit .ensures) (c .before .before .if1 .left) (c .before .before .before .before .before .before .before .before .pre .0) (c .before .before .before .before .before .before .before .before .pre .1) (c .before .if2 .taken))
@@ -52,12 +30,6 @@ mul-acc c = omega (arith, fits _ _ _ (c .before .before .before .before .before 
 add-acc : tie.Need-add-acc Inv-loop μ-loop
 add-acc c = omega (arith, fits _ _ _ (c .before .before .before .before .before .before .before .pre .0) (omega (arith, (c .before .before .before .before .before .before .before .pre), (c .before .if1 .left))) (c .if2 .left))
 
-add-i : tie.Need-add-i Inv-loop μ-loop
-add-i c = search needs
-
-loop-less : tie.Need-loop-less Inv-loop μ-loop
-loop-less c = search needs
-
 loop-again : tie.Need-loop-again Inv-loop μ-loop
 loop-again c = (fits _ _ _ (c .before .before .before .before .before .before .before .pre .0) (omega (arith, (c .before .before .before .before .before .before .before .pre), (c .before .if1 .left))) (c .if2 .left), (c .before .before .before .before .before .loop .inv .1) ∙ turn-good _ _ (c .before .before .before .before .before .loop .i) _ _ (c .before .before .before .before .loop-test .taken) (c .before .before .to-digit .ensures) (c .before .if1 .left))
 
@@ -67,21 +39,5 @@ returns-3 c = sym ((c .before .loop .inv .1) ∙ digits-end _ _ (c .before .loop
 pub all-digits-spec : {M : Type 1} → statement M
 all-digits-spec =
     tie.close
-    (tie.spec
-    Inv-loop
-    μ-loop
-    loop-holds
-    shared-slice-read-to-digit
-    to-digit-requires
-    returns
-    sub-if2
-    div-if2
-    add-beyond
-    beyond-requires
-    returns-2
-    mul-acc
-    add-acc
-    add-i
-    loop-less
-    loop-again
-    returns-3)
+    (tie.spec Inv-loop μ-loop loop-holds (λ c. search needs) (λ c κs. search needs) returns (λ c. search needs) (λ c. search needs) (λ c. search needs)
+    (λ c κs. search needs) returns-2 mul-acc add-acc (λ c. search needs) (λ c. search needs) loop-again returns-3)

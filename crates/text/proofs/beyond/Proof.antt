@@ -1,16 +1,12 @@
 -- `beyond` meets its contract: what is left says the same of a number that is too large.
 use Prim.Native.Nat.{_-_, _^_}
-use mathlib.Core.Path.{_≡_, refl, sym, _∙_, ap}
-use native.Mathlib.Omega.{arith}
+use mathlib.Core.Path.{_≡_, refl, sym, _∙_}
 use lib.ListN.{length, drop}
 use Rattle.meaning.specs.Convert.{digits}
 use Rattle.text.proofs.Laws.{turn-bad, turn-beyond, beyond-end}
 use borrow.Author.Needs.{needs}
 use Rattle.text.proofs.beyond.Statement.{statement}
 use Rattle.text.proofs.beyond.Tie as tie
-use Rattle.text.proofs.beyond.Reads as reads
-use Rattle.text.proofs.beyond.Lts as lts
-use Rattle.text.proofs.to_digit.Reads as to-digit-reads
 
 abbrev Inv-loop : tie.InvT-loop
 Inv-loop s from base i₀ i = digits base (drop from s) (2 ^ 64) ≡ digits base (drop i s) (2 ^ 64)
@@ -21,20 +17,8 @@ abbrev μ-loop : tie.MeasureT-loop
 loop-holds : tie.Need-loop-holds Inv-loop μ-loop
 loop-holds c = refl
 
-shared-slice-read-to-digit : tie.Need-shared-slice-read-to-digit Inv-loop μ-loop
-shared-slice-read-to-digit c = search needs
-
-to-digit-requires : tie.Need-to-digit-requires Inv-loop μ-loop
-to-digit-requires c κs = search needs
-
 returns : tie.Need-returns Inv-loop μ-loop
 returns c = sym ((c .before .before .before .before .loop .inv) ∙ turn-bad _ _ (c .before .before .before .before .loop .i) _ _ (c .before .before .before .loop-test .taken) (c .before .to-digit .ensures) (c .if1 .taken))
-
-add-i : tie.Need-add-i Inv-loop μ-loop
-add-i c = search needs
-
-loop-less : tie.Need-loop-less Inv-loop μ-loop
-loop-less c = search needs
 
 loop-again : tie.Need-loop-again Inv-loop μ-loop
 loop-again c = (c .before .before .before .before .loop .inv) ∙ turn-beyond _ _ (c .before .before .before .before .loop .i) _ (c .before .before .before .loop-test .taken) (c .before .to-digit .ensures) (c .if1 .left) (c .before .before .before .before .before .before .pre)
@@ -45,14 +29,4 @@ returns-2 c = sym ((c .before .loop .inv) ∙ beyond-end _ _ (c .before .loop .i
 pub beyond-spec : {M : Type 1} → statement M
 beyond-spec =
     tie.close
-    (tie.spec
-    Inv-loop
-    μ-loop
-    loop-holds
-    shared-slice-read-to-digit
-    to-digit-requires
-    returns
-    add-i
-    loop-less
-    loop-again
-    returns-2)
+    (tie.spec Inv-loop μ-loop loop-holds (λ c. search needs) (λ c κs. search needs) returns (λ c. search needs) (λ c. search needs) loop-again returns-2)

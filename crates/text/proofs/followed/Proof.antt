@@ -1,6 +1,6 @@
 -- `followed` meets its contract: what the tails that are left say is what the whole form says.
 use Prim.Native.Nat.{_+_, _-_, _≤_, _<_}
-use mathlib.Core.Path.{_≡_, refl, sym, _∙_, ap}
+use mathlib.Core.Path.{_≡_, sym, _∙_}
 use native.Mathlib.Omega.{arith}
 use lib.ListN.{length, drop}
 use Rattle.meaning.specs.Choice.{pick}
@@ -10,22 +10,13 @@ use Rattle.text.proofs.Laws.{octet-inside, left, tails-start, tails-sho
 use borrow.Author.Needs.{needs}
 use Rattle.text.proofs.followed.Statement.{statement}
 use Rattle.text.proofs.followed.Tie as tie
-use Rattle.text.proofs.followed.Reads as reads
-use Rattle.text.proofs.followed.Lts as lts
-use Rattle.text.proofs.octet.Reads as octet-reads
 
 abbrev Inv-loop : tie.InvT-loop
-Inv-loop s i n least most second k₀ k = 
+Inv-loop s i n least most second k₀ k =
     (k ≤ n) × ((i + 1 + k < length s) × (pick (has (octets least most n) (drop (i + 1) s)) (n + 2) 0 ≡ left s i n (n + 2) k))
 
 abbrev μ-loop : tie.MeasureT-loop
 μ-loop s i n least most second k₀ k = n - k
-
-add-octet : tie.Need-add-octet Inv-loop μ-loop
-add-octet c = search needs
-
-octet-requires : tie.Need-octet-requires Inv-loop μ-loop
-octet-requires c κs = search needs
 
 returns : tie.Need-returns Inv-loop μ-loop
 returns c = tails-short (c .before .before .before .args .s .now) (c .before .before .before .args .i) (c .before .before .before .args .n) _ _ _ _ (c .before .octet .ensures) (c .if1 .left)
@@ -33,29 +24,11 @@ returns c = tails-short (c .before .before .before .args .s .now) (c .before .be
 loop-holds : tie.Need-loop-holds Inv-loop μ-loop
 loop-holds c = (search needs, (omega (arith, octet-inside _ _ (c .before .before .before .args .s .now) (c .before .before .before .args .i + 1) _ (c .before .octet .ensures) (c .if1 .taken)), tails-start (c .before .before .before .args .s .now) (c .before .before .before .args .i) (c .before .before .before .args .n) _ _ _ _ (c .before .octet .ensures) (c .if1 .taken)))
 
-add-octet-2 : tie.Need-add-octet-2 Inv-loop μ-loop
-add-octet-2 c = search needs
-
-add-octet-3 : tie.Need-add-octet-3 Inv-loop μ-loop
-add-octet-3 c = search needs
-
-octet-requires-2 : tie.Need-octet-requires-2 Inv-loop μ-loop
-octet-requires-2 c κs = search needs
-
 returns-2 : tie.Need-returns-2 Inv-loop μ-loop
 returns-2 c = sym ((c .before .before .before .loop .inv .1 .1) ∙ tails-missed (c .before .before .before .before .before .before .before .args .s .now) (c .before .before .before .before .before .before .before .args .i) (c .before .before .before .before .before .before .before .args .n) _ (c .before .before .before .loop .k) _ (c .before .before .loop-test .taken) (c .before .octet2 .ensures) (c .if2 .left))
 
-add-k : tie.Need-add-k Inv-loop μ-loop
-add-k c = search needs
-
-loop-less : tie.Need-loop-less Inv-loop μ-loop
-loop-less c = search needs
-
 loop-again : tie.Need-loop-again Inv-loop μ-loop
 loop-again c = (search needs, (omega (arith, octet-inside _ _ (c .before .before .before .before .before .before .before .args .s .now) (c .before .before .before .before .before .before .before .args .i + 2 + c .before .before .before .loop .k) _ (c .before .octet2 .ensures) (c .if2 .taken)), (c .before .before .before .loop .inv .1 .1) ∙ tails-more (c .before .before .before .before .before .before .before .args .s .now) (c .before .before .before .before .before .before .before .args .i) (c .before .before .before .before .before .before .before .args .n) _ (c .before .before .before .loop .k) _ (c .before .before .loop-test .taken) (c .before .octet2 .ensures) (c .if2 .taken)))
-
-add-result : tie.Need-add-result Inv-loop μ-loop
-add-result c = search needs
 
 returns-3 : tie.Need-returns-3 Inv-loop μ-loop
 returns-3 c = sym ((c .before .loop .inv .1 .1) ∙ tails-end (c .before .before .before .before .before .args .s .now) (c .before .before .before .before .before .args .i) (c .before .before .before .before .before .args .n) _ (c .before .loop .k) (c .loop-test .left))
@@ -63,19 +36,5 @@ returns-3 c = sym ((c .before .loop .inv .1 .1) ∙ tails-end (c .before .before
 pub followed-spec : {M : Type 1} → statement M
 followed-spec =
     tie.close
-    (tie.spec
-    Inv-loop
-    μ-loop
-    add-octet
-    octet-requires
-    returns
-    loop-holds
-    add-octet-2
-    add-octet-3
-    octet-requires-2
-    returns-2
-    add-k
-    loop-less
-    loop-again
-    add-result
-    returns-3)
+    (tie.spec Inv-loop μ-loop (λ c. search needs) (λ c κs. search needs) returns loop-holds (λ c. search needs) (λ c. search needs) (λ c κs. search needs)
+    returns-2 (λ c. search needs) (λ c. search needs) loop-again (λ c. search needs) returns-3)

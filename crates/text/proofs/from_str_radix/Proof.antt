@@ -4,33 +4,15 @@ use Rattle.text.proofs.Laws.{sign-empty, sign-none, sign-alone, sign-mo
 use borrow.Author.Needs.{needs}
 use Rattle.text.proofs.from_str_radix.Statement.{statement}
 use Rattle.text.proofs.from_str_radix.Tie as tie
-use Rattle.text.proofs.from_str_radix.Reads as reads
-use Rattle.text.proofs.from_str_radix.Lts as lts
-use Rattle.text.proofs.all_digits.Reads as all-digits-reads
 
 returns : tie.Need-returns
 returns c = sign-empty (c .before .before .args .base) (c .before .before .args .s .now) (c .before .before .args .from) (c .if1 .taken)
 
-shared-slice-read-if2 : tie.Need-shared-slice-read-if2
-shared-slice-read-if2 c = search needs
-
-all-digits-requires : tie.Need-all-digits-requires
-all-digits-requires c κs = search needs
-
 returns-2 : tie.Need-returns-2
 returns-2 c = (c .all-digits .ensures) ∙ sign-none (c .before .before .before .before .before .args .base) (c .before .before .before .before .before .args .s .now) (c .before .before .before .before .before .args .from) (c .before .before .before .if1 .left) (c .before .if2 .taken)
 
-sub-if3 : tie.Need-sub-if3
-sub-if3 c = search needs
-
 returns-3 : tie.Need-returns-3
 returns-3 c = sign-alone (c .before .before .before .before .before .args .base) (c .before .before .before .before .before .args .s .now) (c .before .before .before .before .before .args .from) (c .before .before .before .if1 .left) (c .before .if2 .left) (c .if3 .taken)
-
-add-all-digits : tie.Need-add-all-digits
-add-all-digits c = search needs
-
-all-digits-requires-2 : tie.Need-all-digits-requires-2
-all-digits-requires-2 c κs = search needs
 
 returns-4 : tie.Need-returns-4
 returns-4 c = (c .all-digits2 .ensures) ∙ sign-more (c .before .before .before .before .before .before .args .base) (c .before .before .before .before .before .before .args .s .now) (c .before .before .before .before .before .before .args .from) (c .before .before .before .before .if1 .left) (c .before .before .if2 .left) (c .before .if3 .left)
@@ -38,13 +20,5 @@ returns-4 c = (c .all-digits2 .ensures) ∙ sign-more (c .before .before .before
 pub from-str-radix-spec : {M : Type 1} → statement M
 from-str-radix-spec =
     tie.close
-    (tie.spec
-    returns
-    shared-slice-read-if2
-    all-digits-requires
-    returns-2
-    sub-if3
-    returns-3
-    add-all-digits
-    all-digits-requires-2
+    (tie.spec returns (λ c. search needs) (λ c κs. search needs) returns-2 (λ c. search needs) returns-3 (λ c. search needs) (λ c κs. search needs)
     returns-4)

@@ -1,6 +1,6 @@
 -- `move_to` meets its contract: line and column so far are those of the place at i.
 use Prim.Native.Nat.{_-_, _≤_}
-use mathlib.Core.Path.{_≡_, refl, sym, _∙_, ap}
+use mathlib.Core.Path.{_≡_, sym, _∙_, ap}
 use native.Mathlib.Omega.{arith}
 use mathlib.Core.Logic.{⊎-elim}
 use lib.ListN.{length}
@@ -9,11 +9,9 @@ use Rattle.text.specs.PlaceLaws.{step-lf, step-other, placeAt-near}
 use borrow.Author.Needs.{needs}
 use Rattle.text.proofs.move_to.Statement.{statement}
 use Rattle.text.proofs.move_to.Tie as tie
-use Rattle.text.proofs.move_to.Reads as reads
-use Rattle.text.proofs.move_to.Lts as lts
 
 abbrev Inv-loop : tie.InvT-loop
-Inv-loop s to line₀ column₀ i₀ line column i = 
+Inv-loop s to line₀ column₀ i₀ line column i =
     (i ≤ to) × ((to ≤ length s) × ((line ≤ i) × ((column ≤ i) × (placeAt s i ≡ at i line column))))
 
 abbrev μ-loop : tie.MeasureT-loop
@@ -27,29 +25,36 @@ loop-holds c =
     let k = ap (λ q. q .column) (c .pre .0) in
     (search needs, (search needs, (omega (arith, h .line, l), (omega (arith, h .column, k), sym (c .pre .0)))))
 
-shared-slice-read-if1 : tie.Need-shared-slice-read-if1 Inv-loop μ-loop
-shared-slice-read-if1 c = search needs
-
-add-line : tie.Need-add-line Inv-loop μ-loop
-add-line c = search needs
-
-add-column : tie.Need-add-column Inv-loop μ-loop
-add-column c = search needs
-
-add-i : tie.Need-add-i Inv-loop μ-loop
-add-i c = search needs
-
-loop-less : tie.Need-loop-less Inv-loop μ-loop
-loop-less c = search needs
-
 loop-again : tie.Need-loop-again Inv-loop μ-loop
 loop-again c =
     let a = c .before .before .before in
     ⊎-elim
-    (λ w. (search needs, (search needs, (omega arith, (omega arith,
-      step-lf _ (a .loop .i) _ _ (search needs) (w .0 .taken) (a .loop .inv .1 .1 .1 .1) ∙ cc)))))
-    (λ w. (search needs, (search needs, (omega arith, (omega arith,
-      step-other _ (a .loop .i) _ _ (search needs) (w .0 .left) (a .loop .inv .1 .1 .1 .1) ∙ cc)))))
+    (λ w. (
+      search needs,
+      (
+        search needs,
+        (
+          omega arith,
+          (
+            omega arith,
+            step-lf _ (a .loop .i) _ _ (search needs) (w .0 .taken) (a .loop .inv .1 .1 .1 .1) ∙ cc,
+          ),
+        ),
+      ),
+    ))
+    (λ w. (
+      search needs,
+      (
+        search needs,
+        (
+          omega arith,
+          (
+            omega arith,
+            step-other _ (a .loop .i) _ _ (search needs) (w .0 .left) (a .loop .inv .1 .1 .1 .1) ∙ cc,
+          ),
+        ),
+      ),
+    ))
     (c .if1 .came)
 
 returns : tie.Need-returns Inv-loop μ-loop
@@ -58,14 +63,5 @@ returns c = let e : (c .before .loop .i) ≡ (c .before .before .args .to) = ome
 pub move-to-spec : {M : Type 1} → statement M
 move-to-spec =
     tie.close
-    (tie.spec
-    Inv-loop
-    μ-loop
-    loop-holds
-    shared-slice-read-if1
-    add-line
-    add-column
-    add-i
-    loop-less
-    loop-again
+    (tie.spec Inv-loop μ-loop loop-holds (λ c. search needs) (λ c. search needs) (λ c. search needs) (λ c. search needs) (λ c. search needs) loop-again
     returns)

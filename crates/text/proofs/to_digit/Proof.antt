@@ -4,8 +4,6 @@ use borrow.Author.Tests.{le-leb, lt-leb}
 use borrow.Author.Needs.{needs}
 use Rattle.text.proofs.to_digit.Statement.{statement}
 use Rattle.text.proofs.to_digit.Tie as tie
-use Rattle.text.proofs.to_digit.Reads as reads
-use Rattle.text.proofs.to_digit.Lts as lts
 
 returns : tie.Need-returns
 returns c = simp (lt-leb 48 _ (c .if1 .taken), lt-leb 65 (c .before .args .b) (omega arith), lt-leb 97 (c .before .args .b) (omega arith))
@@ -16,17 +14,11 @@ returns-2 c = simp (le-leb 48 _ (c .before .if1 .left), le-leb _ 57 (c .if2 .tak
 returns-3 : tie.Need-returns-3
 returns-3 c = simp (le-leb 48 _ (c .before .before .if1 .left), lt-leb _ 57 (c .before .if2 .left), lt-leb 65 _ (c .if3 .taken), lt-leb 97 (c .before .before .before .args .b) (omega arith))
 
-sub-result : tie.Need-sub-result
-sub-result c = search needs
-
 returns-4 : tie.Need-returns-4
 returns-4 c = simp (le-leb 48 _ (c .before .before .before .if1 .left), lt-leb _ 57 (c .before .before .if2 .left), le-leb 65 _ (c .before .if3 .left), le-leb _ 90 (c .if4 .taken))
 
 returns-5 : tie.Need-returns-5
 returns-5 c = simp (le-leb 48 _ (c .before .before .before .before .if1 .left), lt-leb _ 57 (c .before .before .before .if2 .left), le-leb 65 _ (c .before .before .if3 .left), lt-leb _ 90 (c .before .if4 .left), lt-leb 97 _ (c .if5 .taken))
-
-sub-result-2 : tie.Need-sub-result-2
-sub-result-2 c = search needs
 
 returns-6 : tie.Need-returns-6
 returns-6 c = simp (le-leb 48 _ (c .before .before .before .before .before .if1 .left), lt-leb _ 57 (c .before .before .before .before .if2 .left), le-leb 65 _ (c .before .before .before .if3 .left), lt-leb _ 90 (c .before .before .if4 .left), le-leb 97 _ (c .before .if5 .left), le-leb _ 122 (c .if6 .taken))
@@ -37,13 +29,4 @@ returns-7 c = simp (le-leb 48 _ (c .before .before .before .before .before .if1 
 pub to-digit-spec : {M : Type 1} → statement M
 to-digit-spec =
     tie.close
-    (tie.spec
-    returns
-    returns-2
-    returns-3
-    sub-result
-    returns-4
-    returns-5
-    sub-result-2
-    returns-6
-    returns-7)
+    (tie.spec returns returns-2 returns-3 (λ c. search needs) returns-4 returns-5 (λ c. search needs) returns-6 returns-7)

@@ -1,6 +1,6 @@
 -- `valid_prefix` meets its contract: the bytes before i, and the valid prefix of the rest, are the valid prefix of the whole.
 use Prim.Native.Nat.{_+_, _-_, _≤_}
-use mathlib.Core.Path.{_≡_, refl, sym, _∙_, ap}
+use mathlib.Core.Path.{_≡_}
 use native.Mathlib.Omega.{arith}
 use lib.ListN.{length, drop}
 use Rattle.meaning.specs.Utf8.{valid}
@@ -8,9 +8,6 @@ use Rattle.text.proofs.Laws.{valid-turn, valid-none, valid-end}
 use borrow.Author.Needs.{needs}
 use Rattle.text.proofs.valid_prefix.Statement.{statement}
 use Rattle.text.proofs.valid_prefix.Tie as tie
-use Rattle.text.proofs.valid_prefix.Reads as reads
-use Rattle.text.proofs.valid_prefix.Lts as lts
-use Rattle.text.proofs.character_at.Reads as character-at-reads
 
 abbrev Inv-loop : tie.InvT-loop
 Inv-loop s i₀ i = (i ≤ length s) × (valid s ≡ i + valid (drop i s))
@@ -20,9 +17,6 @@ abbrev μ-loop : tie.MeasureT-loop
 
 loop-holds : tie.Need-loop-holds Inv-loop μ-loop
 loop-holds c = (search needs, omega arith)
-
-character-at-requires : tie.Need-character-at-requires Inv-loop μ-loop
-character-at-requires c κs = search needs
 
 returns : tie.Need-returns Inv-loop μ-loop
 returns c = valid-none _ (c .before .before .before .loop .i) _ (c .before .character-at .ensures) (c .if1 .taken) (c .before .before .before .loop .inv .1)
@@ -42,13 +36,4 @@ returns-2 c = valid-end _ (c .before .loop .i) (c .loop-test .left) (c .before .
 pub valid-prefix-spec : {M : Type 1} → statement M
 valid-prefix-spec =
     tie.close
-    (tie.spec
-    Inv-loop
-    μ-loop
-    loop-holds
-    character-at-requires
-    returns
-    add-i
-    loop-less
-    loop-again
-    returns-2)
+    (tie.spec Inv-loop μ-loop loop-holds (λ c κs. search needs) returns add-i loop-less loop-again returns-2)

@@ -1,62 +1,44 @@
+use native.Mathlib.Omega.{arith}
+use Prim.Native.Nat.{_≤_, _-_}
+use mathlib.Core.Path.{_≡_, refl, _∙_}
+use lib.ListN.{length, drop}
+use Rattle.meaning.specs.Peg.{prefixb}
+use Rattle.lexis.proofs.Laws.{prefix-step, prefix-stop, prefix-differ, lit-miss, lit-took}
 use Rattle.lexis.proofs.texts.literal.Statement.{statement}
 use Rattle.lexis.proofs.texts.literal.Tie as tie
-use Rattle.lexis.proofs.texts.literal.Reads as reads
-use Rattle.lexis.proofs.texts.literal.Lts as lts
 
 abbrev Inv-loop : tie.InvT-loop
-Inv-loop s l i₀ i = ?
+Inv-loop s l i₀ i = (i ≤ length l) × (prefixb l s ≡ prefixb (drop i l) (drop i s))
 
 abbrev μ-loop : tie.MeasureT-loop
-μ-loop s l i₀ i = ?
+μ-loop s l i₀ i = length l - i
 
--- src/texts.rt:12:5
 loop-holds : tie.Need-loop-holds Inv-loop μ-loop
-loop-holds c = ?
+loop-holds c = (omega arith, refl)
 
--- src/texts.rt:14:13
 returns : tie.Need-returns Inv-loop μ-loop
-returns c = ?
+returns c = lit-miss _ _ ((c .before .before .loop .inv .1) ∙ prefix-stop _ _ _ (c .before .loop-test .taken) (c .if1 .taken))
 
--- src/texts.rt:16:12
 shared-slice-read-if2 : tie.Need-shared-slice-read-if2 Inv-loop μ-loop
-shared-slice-read-if2 c = ?
+shared-slice-read-if2 c = omega arith
 
--- src/texts.rt:16:20
 shared-slice-read-if2-2 : tie.Need-shared-slice-read-if2-2 Inv-loop μ-loop
-shared-slice-read-if2-2 c = ?
+shared-slice-read-if2-2 c = omega arith
 
--- src/texts.rt:17:13
 returns-2 : tie.Need-returns-2 Inv-loop μ-loop
-returns-2 c = ?
+returns-2 c = lit-miss _ _ ((c .before .before .before .before .before .loop .inv .1) ∙ prefix-differ _ _ _ (c .before .before .before .before .loop-test .taken) (c .before .before .before .if1 .left) (c .if2 .taken))
 
--- src/texts.rt:19:9
 add-i : tie.Need-add-i Inv-loop μ-loop
-add-i c = ?
+add-i c = omega arith
 
--- src/texts.rt:12:5
 loop-less : tie.Need-loop-less Inv-loop μ-loop
-loop-less c = ?
+loop-less c = omega arith
 
--- src/texts.rt:12:5
 loop-again : tie.Need-loop-again Inv-loop μ-loop
-loop-again c = ?
+loop-again c = (omega arith, (c .before .before .before .before .before .loop .inv .1) ∙ prefix-step _ _ _ (c .before .before .before .before .loop-test .taken) (c .before .before .before .if1 .left) (c .if2 .left))
 
--- src/texts.rt:8:1
 returns-3 : tie.Need-returns-3 Inv-loop μ-loop
-returns-3 c = ?
+returns-3 c = lit-took _ _ _ (c .loop-test .left) (c .before .loop .inv .1)
 
 pub literal-spec : {M : Type 1} → statement M
-literal-spec =
-    tie.close
-    (tie.spec
-    Inv-loop
-    μ-loop
-    loop-holds
-    returns
-    shared-slice-read-if2
-    shared-slice-read-if2-2
-    returns-2
-    add-i
-    loop-less
-    loop-again
-    returns-3)
+literal-spec = tie.close (tie.spec Inv-loop μ-loop loop-holds returns shared-slice-read-if2 shared-slice-read-if2-2 returns-2 add-i loop-less loop-again returns-3)
