@@ -1,7 +1,8 @@
 //! The lines of 01's program, and those of a layout.
 
-use crate::layout::Layout;
-use crate::reading::{Reading, Refusal};
+use crate::aligner::Room;
+use crate::layout::{feed, Layout};
+use crate::reading::{Reading, Refusal, DECLARATIONS, FIELDS};
 
 /// The letters of the tables' lines, in number order.
 const LETTERS: [&str; 5] = ["D", "F", "T", "C", "M"];
@@ -20,9 +21,19 @@ pub fn answer(answer: &Result<Reading, Refusal>) -> String {
     }
 }
 
+/// The lines of the layouts of all packets, structs and groups.
+pub fn layouts(reading: &Reading) -> String {
+    let [declarations, fields] = [DECLARATIONS, FIELDS].map(|table| &reading.tables[table]);
+    (0..)
+        .zip(reading.rows(DECLARATIONS))
+        .filter(|(_, declaration)| (2..=4).contains(&declaration[0]))
+        .map(|(row, _)| layout(row, &feed(declarations, fields, row, Room::ENOUGH)))
+        .collect()
+}
+
 /// The lines of a declaration's layout: L (row, number, place, reason, placed, chunks), and
 /// then P for each placed field and K for each chunk.
-pub fn layout(row: u64, layout: &Result<Layout, Refusal>) -> String {
+fn layout(row: u64, layout: &Result<Layout, Refusal>) -> String {
     match layout {
         Ok(Layout { placed, chunks }) => {
             let (placed_count, chunk_count) = (placed.len() as u64, chunks.len() as u64);

@@ -1,16 +1,16 @@
 -- Each answer of the aligner's functions, from the tests that led to it.
 use Prim.Native.Nat.{ℕ, _+_, _-_, _%_, _<_, _≤_}
-use mathlib.Core.Path.{_≡_, refl, sym, ap, _∙_}
+use mathlib.Core.Path.{_≡_, refl, sym, _∙_}
 use mathlib.Core.List.{List, [], _∷_}
-use mathlib.Core.Bool.{Bool, true, false}
+use mathlib.Core.Bool.{Bool, true, false, not}
 use native.Mathlib.Omega.{arith}
 use lib.Dec.{ltb, leb, eqb}
-use borrow.Author.Tests.{lt-ltb, le-ltb, le-leb, lt-leb, eq-eqb, ne-eqb}
+use borrow.Author.Tests.{lt-ltb, le-ltb, le-leb, lt-leb, ne-eqb, ltb-true, ltb-false, not-true, not-false}
 use Rattle.meaning.specs.declared.Aligner.{Aligner}
 use Rattle.meaning.specs.Tables.{put, room}
-use Rattle.meaning.specs.Alignment.{World, world, Called, settled, sound, due, bits-number, bytes-number, dyn-number, end-number, bits-done, chunk-done, call, add-bitfield, add-bytes, add-dyn-bytes}
+use Rattle.meaning.specs.Alignment.{World, world, settled, staged, sound, due, bits-number, bytes-number, dyn-number, end-number, bits-done, chunk-done, call, add-bitfield, add-bytes, add-dyn-bytes}
 use Rattle.alignment.specs.Answers.{ended}
-use Rattle.alignment.specs.NumberLaws.{Sound, sound-says}
+use Rattle.alignment.specs.NumberLaws.{sound-says}
 
 -- ---- the tests of 18
 module _ (w : World) where
@@ -45,6 +45,14 @@ module _ (w : World) where
           pub sound-bare : w .st .placed ≤ w .st .start → w .st .width ≤ 0 → 0 ≡ sound w
           unfolding sound
           sound-bare l m = simp (le-ltb _ _ h, le-ltb _ _ i, le-ltb _ _ j, le-ltb _ _ k, le-ltb _ _ l, le-ltb _ _ m)
+
+-- nothing is staged
+pub aligned-is : (s p : ℕ) → leb p s ≡ not (ltb s p)
+aligned-is s p = cases (ltb s p) refl
+  where
+    cases : (b : Bool) → ltb s p ≡ b → leb p s ≡ not b
+    cases true e = lt-leb p s (ltb-true s p e)
+    cases false e = le-leb p s (ltb-false s p e)
 
 pub due-none : (t : ℕ) → t ≡ 0 → false ≡ due t
 unfolding due
@@ -109,48 +117,56 @@ module _ (w : World) (n : ℕ) (e : n ≡ sound w) where
         unfolding bits-number
         bits-0′ t = simp (good, fits, lt-leb _ _ j, sym d ∙ t)
 
-    module _ (i : w .st .start < w .st .placed) where
-      pub bytes-10 : (v : ℕ) → 10 ≡ bytes-number v w
-      unfolding bytes-number
-      bytes-10 v = simp (good, lt-ltb _ _ i)
+    -- b is what the test of staged fields answered
+    module _ (b : Bool) (d : b ≡ not (staged (w .st))) where
+      module _ (t : not b ≡ true) where
+        some : staged (w .st) ≡ true
+        some = not-false (staged (w .st)) (sym d ∙ not-true b t)
 
-      pub dyn-10 : 10 ≡ dyn-number w
-      unfolding dyn-number
-      dyn-10 = simp (good, lt-ltb _ _ i)
-
-      pub end-16 : 16 ≡ end-number w
-      unfolding end-number
-      end-16 = simp (good, lt-ltb _ _ i)
-
-    module _ (i : w .st .placed ≤ w .st .start) where
-      pub bytes-11 : (v : ℕ) → 0 < v % 8 → 11 ≡ bytes-number v w
-      unfolding bytes-number
-      bytes-11 v j = simp (good, le-ltb _ _ i, lt-ltb _ _ j)
-
-      module _ (v : ℕ) (j : v % 8 ≤ 0) where
-        pub bytes-12 : 64 < v → 12 ≡ bytes-number v w
+        pub bytes-10 : (v : ℕ) → 10 ≡ bytes-number v w
         unfolding bytes-number
-        bytes-12 k = simp (good, le-ltb _ _ i, le-ltb _ _ j, lt-ltb _ _ k)
+        bytes-10 v = simp (good, some)
 
-        pub bytes-13 : v ≤ 64 → room 5 (w .cs) ≤ w .st .chunks → 13 ≡ bytes-number v w
+        pub dyn-10 : 10 ≡ dyn-number w
+        unfolding dyn-number
+        dyn-10 = simp (good, some)
+
+        pub end-16 : 16 ≡ end-number w
+        unfolding end-number
+        end-16 = simp (good, some)
+
+      module _ (t : not b ≡ false) where
+        none : staged (w .st) ≡ false
+        none = not-true (staged (w .st)) (sym d ∙ not-false b t)
+
+        pub bytes-11 : (v : ℕ) → 0 < v % 8 → 11 ≡ bytes-number v w
         unfolding bytes-number
-        bytes-13 k l = simp (good, le-ltb _ _ i, le-ltb _ _ j, le-ltb _ _ k, le-leb _ _ l)
+        bytes-11 v j = simp (good, none, lt-ltb _ _ j)
 
-        pub bytes-0 : v ≤ 64 → w .st .chunks < room 5 (w .cs) → 0 ≡ bytes-number v w
-        unfolding bytes-number
-        bytes-0 k l = simp (good, le-ltb _ _ i, le-ltb _ _ j, le-ltb _ _ k, lt-leb _ _ l)
+        module _ (v : ℕ) (j : v % 8 ≤ 0) where
+          pub bytes-12 : 64 < v → 12 ≡ bytes-number v w
+          unfolding bytes-number
+          bytes-12 k = simp (good, none, le-ltb _ _ j, lt-ltb _ _ k)
 
-      pub dyn-13 : room 5 (w .cs) ≤ w .st .chunks → 13 ≡ dyn-number w
-      unfolding dyn-number
-      dyn-13 l = simp (good, le-ltb _ _ i, le-leb _ _ l)
+          pub bytes-13 : v ≤ 64 → room 5 (w .cs) ≤ w .st .chunks → 13 ≡ bytes-number v w
+          unfolding bytes-number
+          bytes-13 k l = simp (good, none, le-ltb _ _ j, le-ltb _ _ k, le-leb _ _ l)
 
-      pub dyn-0 : w .st .chunks < room 5 (w .cs) → 0 ≡ dyn-number w
-      unfolding dyn-number
-      dyn-0 l = simp (good, le-ltb _ _ i, lt-leb _ _ l)
+          pub bytes-0 : v ≤ 64 → w .st .chunks < room 5 (w .cs) → 0 ≡ bytes-number v w
+          unfolding bytes-number
+          bytes-0 k l = simp (good, none, le-ltb _ _ j, le-ltb _ _ k, lt-leb _ _ l)
 
-      pub end-0 : 0 ≡ end-number w
-      unfolding end-number
-      end-0 = simp (good, le-ltb _ _ i)
+        pub dyn-13 : room 5 (w .cs) ≤ w .st .chunks → 13 ≡ dyn-number w
+        unfolding dyn-number
+        dyn-13 l = simp (good, none, le-leb _ _ l)
+
+        pub dyn-0 : w .st .chunks < room 5 (w .cs) → 0 ≡ dyn-number w
+        unfolding dyn-number
+        dyn-0 l = simp (good, none, lt-leb _ _ l)
+
+        pub end-0 : 0 ≡ end-number w
+        unfolding end-number
+        end-0 = simp (good, none)
 
 -- ---- the calls; n is the number that was judged
 refused : (n m : ℕ) (x y : World) → n ≡ m → (n ≡ 0 → ⊥) → record { number = n; left = y } ≡ settled m x y

@@ -1,10 +1,10 @@
 -- What it says of a state and its tables that a call's number is 0.
 use Prim.Native.Nat.{ℕ, _+_, _%_, _<_, _≤_}
-use mathlib.Core.Path.{_≡_, refl, sym}
+use mathlib.Core.Path.{_≡_, refl}
 use mathlib.Core.Bool.{Bool, true, false, not}
 use native.Mathlib.Omega.{arith}
-use lib.Dec.{ltb, leb, eqb}
-use borrow.Author.Tests.{lt-ltb, le-ltb, ltb-true, ltb-false, leb-false}
+use lib.Dec.{ltb, leb}
+use borrow.Author.Tests.{le-ltb, ltb-true, ltb-false, leb-false}
 use Rattle.meaning.specs.Choice.{pick, both}
 use Rattle.meaning.specs.Tables.{room}
 use Rattle.meaning.specs.Alignment.{World, sound, due, bits-number, bytes-number, dyn-number}

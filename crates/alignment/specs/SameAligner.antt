@@ -1,6 +1,6 @@
 -- The port's aligner and the Rust's, side by side over any calls: the same chunks and staged fields, a panic being a refusal.
 use Prim.Native.Nat.{ℕ, zero, suc, _+_, _%_}
-use mathlib.Core.Path.{_≡_, refl, sym, ap, _∙_}
+use mathlib.Core.Path.{_≡_, refl, _∙_}
 use mathlib.Core.List.{List, [], _∷_, _++_, append-nil}
 use mathlib.Core.Bool.{Bool, true, false, not}
 use native.Mathlib.Omega.{arith}
@@ -105,39 +105,39 @@ module _ (ps cs : List ℕ) where
     bits-told : (s v : ℕ) → bits-done s v w ≡ told ps cs (try-commit-staged-chunk (push-field s v b))
     unfolding told bits-done due
     bits-told s v =
-      let c = push-field s v b in
-      rw (positive (b .staged-width + v))
-      (either (both (not (eqb (c .staged-width) 0)) (is-multiple-of-8 (c .staged-width))) _ _ (commit c) c (told-commit ps cs b s v) (told-field ps cs b s v))
+        let c = push-field s v b in
+        rw (positive (b .staged-width + v))
+        (either (both (not (eqb (c .staged-width) 0)) (is-multiple-of-8 (c .staged-width))) _ _ (commit c) c (told-commit ps cs b s v) (told-field ps cs b s v))
 
     bits-agree : (s v : ℕ) → Agrees ps cs b w (bits-done s v w) (bits-number v w) (perform (Call.add-bitfield s v) b)
     unfolding bits-number perform told
     bits-agree s v =
-      let total = b .staged-width + v in
-      rw (clear w g)
-      (test refl (ltb 64 total) total-too-wide
-      (full (no-placed w) (full (both (due total) (no-chunk w)) (went (try-commit-staged-chunk (push-field s v b)) (bits-told s v)))))
+        let total = b .staged-width + v in
+        rw (clear w g)
+        (test refl (ltb 64 total) total-too-wide
+        (full (no-placed w) (full (both (due total) (no-chunk w)) (went (try-commit-staged-chunk (push-field s v b)) (bits-told s v)))))
 
     bytes-agree : (s v : ℕ) → Agrees ps cs b w (chunk-done 2 s v w) (bytes-number v w) (perform (Call.add-bytes s v) b)
     unfolding bytes-number perform told chunk-done
     bytes-agree s v =
-      rw (clear w g, some-staged (fields (b .chunks)) (b .staged-fields), positive (v % 8))
-      (test refl (not (is-aligned b)) bytes-unaligned
-      (test refl (not (is-multiple-of-8 v)) not-divisible
-      (test refl (ltb 64 v) bytes-too-wide
-      (full (no-chunk w) (went (push-chunk (bytes s v) b) (told-chunk ps cs b (bytes s v) (2 ∷ 0 ∷ 0 ∷ v ∷ s ∷ []) refl refl))))))
+        rw (clear w g, some-staged (fields (b .chunks)) (b .staged-fields), positive (v % 8))
+        (test refl (not (is-aligned b)) bytes-unaligned
+        (test refl (not (is-multiple-of-8 v)) not-divisible
+        (test refl (ltb 64 v) bytes-too-wide
+        (full (no-chunk w) (went (push-chunk (bytes s v) b) (told-chunk ps cs b (bytes s v) (2 ∷ 0 ∷ 0 ∷ v ∷ s ∷ []) refl refl))))))
 
     dyn-agree : (s : ℕ) → Agrees ps cs b w (chunk-done 3 s 0 w) (dyn-number w) (perform (Call.add-dyn-bytes s) b)
     unfolding dyn-number perform told chunk-done
     dyn-agree s =
-      rw (clear w g, some-staged (fields (b .chunks)) (b .staged-fields))
-      (test refl (not (is-aligned b)) dyn-unaligned
-      (full (no-chunk w) (went (push-chunk (dyn-bytes s) b) (told-chunk ps cs b (dyn-bytes s) (3 ∷ 0 ∷ 0 ∷ 0 ∷ s ∷ []) refl refl))))
+        rw (clear w g, some-staged (fields (b .chunks)) (b .staged-fields))
+        (test refl (not (is-aligned b)) dyn-unaligned
+        (full (no-chunk w) (went (push-chunk (dyn-bytes s) b) (told-chunk ps cs b (dyn-bytes s) (3 ∷ 0 ∷ 0 ∷ 0 ∷ s ∷ []) refl refl))))
 
     end-agree : Agrees ps cs b w w (end-number w) (perform Call.align b)
     unfolding end-number perform told
     end-agree =
-      rw (clear w g, some-staged (fields (b .chunks)) (b .staged-fields), turned (is-aligned b) (done b) (panic not-aligned))
-      (test refl (not (is-aligned b)) not-aligned (went b refl))
+        rw (clear w g, some-staged (fields (b .chunks)) (b .staged-fields), turned (is-aligned b) (done b) (panic not-aligned))
+        (test refl (not (is-aligned b)) not-aligned (went b refl))
 
   agrees : (k : Call) (b : ByteAligner) → Sound (told ps cs b) → (call k (told ps cs b) .number ≡ 13 → ⊥)
       → (call k (told ps cs b) .number ≡ number (perform k b)) × (call k (told ps cs b) .left ≡ told ps cs (after b (perform k b)))

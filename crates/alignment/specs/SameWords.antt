@@ -1,9 +1,8 @@
 -- The invariant word by word: a table is the words of its rows, one after the other, and past them as it came.
-use Prim.Native.Nat.{ℕ, _+_, _*_, _/_, _≤_}
-use mathlib.Core.Path.{_≡_, refl, sym, ap, _∙_}
+use Prim.Native.Nat.{ℕ, _+_, _*_, _≤_}
+use mathlib.Core.Path.{_≡_, refl}
 use mathlib.Core.List.{List, [], _∷_, _++_, map}
 use native.Mathlib.Omega.{arith}
-use native.Mathlib.Nat.{le-div-iff-mul-le}
 use lib.ListN.{length, drop, length-map}
 use Rattle.meaning.specs.Tables.{puts, flat}
 use Rattle.meaning.specs.Alignment.{World}
@@ -35,7 +34,7 @@ pub same-words : (ps cs : List ℕ) (w : World) (b : ByteAligner) → Same ps cs
 unfolding told
 same-words ps cs w b s =
     let g = rw (s .is) at (s .good) in
-    rw (s .is)
-    ( whole 3 _ (map words (placed-fields b)) ps (field-sizes (placed-fields b)) (length-map (placed-fields b) words) (omega (arith, g .in-placed))
-    , whole 5 _ (chunk-rows 0 (b .chunks)) cs (chunk-sizes 0 (b .chunks)) (chunk-rows-length 0 (b .chunks)) (omega (arith, g .in-chunks))
+    rw (s .is) (
+      whole 3 _ (map words (placed-fields b)) ps (field-sizes (placed-fields b)) (length-map (placed-fields b) words) (omega (arith, g .in-placed)),
+      whole 5 _ (chunk-rows 0 (b .chunks)) cs (chunk-sizes 0 (b .chunks)) (chunk-rows-length 0 (b .chunks)) (omega (arith, g .in-chunks)),
     )

@@ -1,14 +1,12 @@
 -- A call leaves a state sound that was sound: from a fresh state no call answers 18.
-use Prim.Native.Nat.{ℕ, zero, suc, _+_, _-_, _<_, _≤_}
-use mathlib.Core.Path.{_≡_, refl, sym, ap, _∙_}
+use Prim.Native.Nat.{ℕ, zero, suc, _+_, _-_, _≤_}
+use mathlib.Core.Path.{_≡_, refl, sym, _∙_}
 use mathlib.Core.List.{List, [], _∷_}
 use mathlib.Core.Bool.{Bool, true, false}
 use native.Mathlib.Omega.{arith}
-use lib.ListN.{length}
-use lib.Dec.{ltb, eqb}
+use lib.Dec.{ltb}
 use borrow.Author.Tests.{ltb-true, ltb-false, ne-eqb}
 use Rattle.meaning.specs.Choice.{pick}
-use Rattle.meaning.specs.Tables.{put, room}
 use Rattle.meaning.specs.Alignment.{fresh, World, world, settled, due, end-number, bits-done, chunk-done, Call, add-bitfield, add-bytes, add-dyn-bytes, align, call}
 use Rattle.ast.specs.RowLaws.{length-put}
 use Rattle.alignment.specs.NumberLaws.{differ, Sound, BitsFit, bits-fit, ChunkFits, bytes-fit, dyn-fit}

@@ -1,8 +1,8 @@
 // The byte aligner's core (alignment.rs, `ByteAligner`): a state by value over two lent tables of words.
 ghost use mathlib.Core.Path.{_≡_};
-ghost use mathlib.Core.List.{[], _∷_};
+ghost use mathlib.Core.Bool.{not};
 ghost use Rattle.meaning.specs.Tables.{put};
-ghost use Rattle.meaning.specs.Alignment.{world, sound, due, bits-number, bytes-number, dyn-number, end-number, call, add-bitfield, add-bytes, add-dyn-bytes};
+ghost use Rattle.meaning.specs.Alignment.{world, staged, sound, due, bits-number, bytes-number, dyn-number, end-number, call, add-bitfield, add-bytes, add-dyn-bytes};
 ghost use Rattle.alignment.specs.Answers.{called, ended};
 use meaning::Aligner;
 
@@ -43,6 +43,13 @@ fn sound_number(a: Aligner, placed: &[u64], chunks: &[u64]) -> u64
     0
 }
 
+// Whether no field is staged, zero-width ones too.
+fn is_aligned(a: Aligner) -> bool
+    ensures { λ r. ⌜ r ≡ not (staged a) ⌝ }
+{
+    a.placed <= a.start
+}
+
 // Whether a total becomes a chunk.
 fn is_due(total: u64) -> bool
     ensures { λ r. ⌜ r ≡ due total ⌝ }
@@ -81,7 +88,7 @@ fn bytes_number(a: Aligner, placed: &[u64], chunks: &[u64], width: u64) -> u64
     if 0 < sound_number(a, placed, chunks) {
         return 18;
     }
-    if a.start < a.placed {
+    if !is_aligned(a) {
         return 10;
     }
     if 0 < width % 8 {
@@ -103,7 +110,7 @@ fn dyn_number(a: Aligner, placed: &[u64], chunks: &[u64]) -> u64
     if 0 < sound_number(a, placed, chunks) {
         return 18;
     }
-    if a.start < a.placed {
+    if !is_aligned(a) {
         return 10;
     }
     if chunks.len() / 5 <= a.chunks {
@@ -119,7 +126,7 @@ fn end_number(a: Aligner, placed: &[u64], chunks: &[u64]) -> u64
     if 0 < sound_number(a, placed, chunks) {
         return 18;
     }
-    if a.start < a.placed {
+    if !is_aligned(a) {
         return 16;
     }
     0

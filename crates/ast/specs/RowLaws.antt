@@ -1,13 +1,12 @@
 -- Laws of rows in a table, over the row size.
-use Prim.Native.Nat.{ℕ, suc, zero, _+_, _-_, _*_, _/_, _≤_, _<_}
-use mathlib.Core.Path.{_≡_, refl, ap, sym, _∙_, subst}
+use Prim.Native.Nat.{ℕ, suc, _+_, _-_, _*_, _/_, _≤_, _<_}
+use mathlib.Core.Path.{_≡_, refl, ap, sym, _∙_}
 use mathlib.Core.List.{List, [], _∷_, _++_, append-assoc, append-nil}
 use mathlib.Core.Bool.{Bool, true, false}
-use native.Mathlib.Numerals.{add-one}
-use native.Mathlib.Nat.{mul-add, add-mul, mul-zero, one-mul, add-zero, zero-add, zero-mul, suc-mul, le-div-iff-mul-le, div-lt-iff-lt-mul}
+use native.Mathlib.Nat.{add-mul, mul-zero, one-mul, add-zero, zero-add, zero-mul, suc-mul, le-div-iff-mul-le, div-lt-iff-lt-mul}
 use native.Mathlib.Omega.{arith}
-use lib.ListN.{length, getD, take, drop, drop-of-length-le, take-append-drop, length-append, length-drop}
-use lib.Seq.{take-append-le, take-take, drop-drop, drop-cons, take-suc, length-take-le, paste, paste-suc, length-paste, take-length, take-at, drop-at, getD-take, getD-append-add}
+use lib.ListN.{length, getD, take, drop, take-append-drop, length-append}
+use lib.Seq.{take-append-le, take-take, drop-drop, length-take-le, paste, length-paste, take-length, take-at, drop-at, getD-take, getD-append-add}
 use borrow.Author.Tests.{le-leb, lt-leb, leb-true, leb-false}
 use lib.Dec.{leb}
 use Rattle.meaning.specs.Tables.{put, puts, flat}

@@ -56,3 +56,52 @@ pub fn then_constraint(s: &[u8], m: Match) -> ConstraintMatch
         },
     }
 }
+
+// A constraint at the front.
+pub fn constraint(s: &[u8]) -> ConstraintMatch
+    ensures { λ r. ⌜ Draws constraint (now (s .entry)) (r .at) (λ o. drawConstraint o (r .constraint)) ⌝ }
+{
+    then_constraint(s, Match::Took(0, 0))
+}
+
+// A comma and a constraint, where m ends.
+fn then_comma(s: &[u8], m: Match) -> Match
+    requires { ⌜ Within m (now s) ⌝ }
+    ensures { λ r. ⌜ Steps m (text "," ~ constraint) (now (s .entry)) r ⌝ }
+{
+    let c = then_constraint(s, then_blanks(s, then_literal(s, m, b",")));
+    c.at
+}
+
+// As many commas and constraints as follow m.
+fn then_commas(s: &[u8], m: Match) -> Match
+    requires { ⌜ Within m (now s) ⌝ }
+    ensures { λ r. ⌜ Steps m (star (seq skip (text "," ~ constraint))) (now (s .entry)) r ⌝ }
+{
+    let mut at = m;
+    loop {
+        let next = then_comma(s, then_blanks(s, at));
+        match next {
+            Match::Missed(_) => return settle(s, at, next),
+            Match::Took(_, _) => at = next,
+        }
+    }
+}
+
+// A list of constraints, with no last comma, where m ends.
+pub fn then_constraint_list(s: &[u8], m: Match) -> Match
+    requires { ⌜ Within m (now s) ⌝ }
+    ensures { λ r. ⌜ Steps m constraint-list (now (s .entry)) r ⌝ }
+{
+    let c = then_constraint(s, m);
+    let first = c.at;
+    let b = then_blanks(s, first);
+    settle(s, b, then_commas(s, then_comma(s, b)))
+}
+
+// A list of constraints at the front.
+pub fn constraint_list(s: &[u8]) -> Match
+    ensures { λ r. ⌜ Reads constraint-list (now (s .entry)) r ⌝ }
+{
+    then_constraint_list(s, Match::Took(0, 0))
+}

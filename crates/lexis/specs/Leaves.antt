@@ -1,1 +1,178 @@
--- The forest of each token: a rule whose inside has no rule but comments leaves exactly its own node.
+-- The forest of each token: a rule with no rule inside but comments leaves exactly its own node, and an expression with no
+-- rule but comments leaves none.
+use Prim.Native.Nat.{ℕ, zero, suc, _+_}
+use mathlib.Core.Path.{_≡_, refl, ap, ap₂, _∙_}
+use mathlib.Core.List.{List}
+use mathlib.Core.Bool.{Bool, true, false}
+use lib.ListN.{length, drop}
+use Rattle.meaning.specs.declared.Match.{Match}
+use Rattle.meaning.specs.declared.Match.the-variants.{Missed, Took}
+use Rattle.meaning.specs.Choice.{pick, both}
+use Rattle.meaning.specs.Utf8.{character}
+use Rattle.meaning.specs.Rules.{Rule, is}
+use Rattle.meaning.specs.Peg.{Peg, lit, range, any, any-byte, end, neg, seq, alt, star, opt, quiet, rule, prefixb, oneByte, oneLetter, atEnd, within, run, bytewise, hit, taken}
+use Rattle.meaning.specs.Forest.{Forest, nil, tree, _⊕_, Out, missed, took, outcome, leaf, joinO, afterO, orElseO, maybeO, turnedO, hushedO, againO, noteO, manyO, eval, forest, clean, nodes}
+use Rattle.meaning.specs.Pdl.{WHITESPACE, COMMENT, skip, alpha, digit, hexdigit, alphanum, identifier, payload-identifier, body-identifier, intvalue, hexvalue, integer, string, size-modifier, ENUM, PACKET, STRUCT, GROUP, CHECKSUM, CUSTOM-FIELD, TEST, endianness-declaration}
+use Rattle.grammar.specs.Fits.{both-1, both-2}
+use Rattle.grammar.specs.Agree.{same}
+
+-- no rule but comments, as a test
+abbrev pub silent : Peg → Bool
+silent (lit l) = true
+silent (range lo hi) = true
+silent any = true
+silent any-byte = true
+silent end = true
+silent (neg p) = true
+silent (seq a b) = both (silent a) (silent b)
+silent (alt a b) = both (silent a) (silent b)
+silent (star p) = silent p
+silent (opt p) = silent p
+silent (quiet p) = silent p
+silent (rule r p) = is Rule.COMMENT r
+
+-- ---- what is cleaned to nothing
+pub clean-⊕ : (v w : Forest) → clean (v ⊕ w) ≡ clean v ⊕ clean w
+clean-⊕ nil w = refl
+clean-⊕ (tree r s l k more) w = go (is Rule.COMMENT r) (clean-⊕ more w)
+  where
+    go : (b : Bool) → clean (more ⊕ w) ≡ clean more ⊕ clean w → pick b (clean (more ⊕ w)) (tree r s l (clean k) (clean (more ⊕ w))) ≡ pick b (clean more) (tree r s l (clean k) (clean more)) ⊕ clean w
+    go true e = e
+    go false e = ap (tree r s l (clean k)) e
+
+abbrev Bare : Out → Type 0
+Bare x = clean (forest x) ≡ nil
+
+bare-leaf : (m : Match) → Bare (leaf m)
+bare-leaf (Missed f) = refl
+bare-leaf (Took n f) = refl
+
+bare-join : (n f : ℕ) (w : Forest) (x : Out) → clean w ≡ nil → Bare x → Bare (joinO n f w x)
+bare-join n f w (missed g) e h = refl
+bare-join n f w (took k g v) e h = clean-⊕ w v ∙ ap₂ _⊕_ e h
+
+bare-after : (x : Out) (p : ℕ → List ℕ → Out) (o : ℕ) (t : List ℕ) → Bare x → ((i : ℕ) (u : List ℕ) → Bare (p i u)) → Bare (afterO x p o t)
+bare-after (missed f) p o t e h = refl
+bare-after (took n f w) p o t e h = bare-join n f w (p (o + n) (drop n t)) e (h (o + n) (drop n t))
+
+bare-orElse : (x : Out) (p : ℕ → List ℕ → Out) (o : ℕ) (t : List ℕ) → Bare x → Bare (p o t) → Bare (orElseO x p o t)
+bare-orElse (missed f) p o t e h = bare-join 0 f nil (p o t) refl h
+bare-orElse (took n f w) p o t e h = e
+
+bare-again : (x : Out) (p : ℕ → List ℕ → Out) (o : ℕ) (t : List ℕ) → Bare x → ((i : ℕ) (u : List ℕ) → Bare (p i u)) → Bare (againO x p o t)
+bare-again (missed f) p o t e h = refl
+bare-again (took n f w) p o t e h = bare-join n f w (p (o + n) (drop n t)) e (h (o + n) (drop n t))
+
+bare-many : (k : ℕ) (p : ℕ → List ℕ → Out) → ((i : ℕ) (u : List ℕ) → Bare (p i u)) → (o : ℕ) (t : List ℕ) → Bare (manyO k p o t)
+unfolding manyO
+bare-many zero p h o t = refl
+bare-many (suc k) p h o t = bare-again (p o t) (λ i u. manyO k p i u) o t (h o t) (λ i u. bare-many k p h i u)
+
+bare-maybe : (x : Out) → Bare x → Bare (maybeO x)
+bare-maybe (missed f) e = refl
+bare-maybe (took n f w) e = e
+
+bare-turned : (x : Out) → Bare (turnedO x)
+bare-turned (missed f) = refl
+bare-turned (took n f w) = refl
+
+bare-hushed : (x : Out) → Bare x → Bare (hushedO x)
+bare-hushed (missed f) e = refl
+bare-hushed (took n f w) e = e
+
+bare-note : (r : Rule) (o : ℕ) (x : Out) → is Rule.COMMENT r ≡ true → Bare (noteO r o x)
+bare-note r o (missed f) e = refl
+bare-note r o (took n f w) e = ap (λ (b : Bool). pick b nil (tree r o n (clean w) nil)) e
+
+bare : (g : Peg) → silent g ≡ true → (o : ℕ) (t : List ℕ) → Bare (eval g o t)
+unfolding eval
+bare (lit l) e o t = bare-leaf (pick (prefixb l t) (Took (length l) 0) (Missed 1))
+bare (range lo hi) e o t = bare-leaf (oneByte (within lo hi) t)
+bare any e o t = bare-leaf (oneLetter (character t))
+bare any-byte e o t = bare-leaf (oneByte (λ x. true) t)
+bare end e o t = bare-leaf (atEnd t)
+bare (neg p) e o t = bare-turned (eval p o t)
+bare (seq a b) e o t = bare-after (eval a o t) (λ i u. eval b i u) o t (bare a (both-1 (silent a) (silent b) e) o t) (λ i u. bare b (both-2 (silent a) (silent b) e) i u)
+bare (alt a b) e o t = bare-orElse (eval a o t) (λ i u. eval b i u) o t (bare a (both-1 (silent a) (silent b) e) o t) (bare b (both-2 (silent a) (silent b) e) o t)
+bare (star p) e o t = bare-many (suc (length t)) (λ i u. eval p i u) (λ i u. bare p e i u) o t
+bare (opt p) e o t = bare-maybe (eval p o t) (bare p e o t)
+bare (quiet p) e o t = bare-hushed (eval p o t) (bare p e o t)
+bare (rule r p) e o t = bare-note r o (eval p o t) e
+
+-- ---- the two laws
+pub none-of : (g : Peg) → silent g ≡ true → (o : ℕ) (t : List ℕ) → nodes g o t ≡ nil
+unfolding nodes
+none-of g e o t = bare g e o t
+
+pub leaf-of : (r : Rule) (p : Peg) → is Rule.COMMENT r ≡ false → silent p ≡ true → (o : ℕ) (t : List ℕ) → hit (run (rule r p) t) ≡ true → nodes (rule r p) o t ≡ tree r o (taken (run (rule r p) t)) nil nil
+unfolding nodes eval run
+leaf-of r p c e o t h = rw (← same p o t) (go (eval p o t) (bare p e o t) (rw (← same p o t) at h))
+  where
+    go : (x : Out) → Bare x → hit (outcome x) ≡ true → clean (forest (noteO r o x)) ≡ tree r o (taken (outcome x)) nil nil
+    go (missed f) b q = cc
+    go (took n f w) b q = ap (λ (d : Bool). pick d nil (tree r o n (clean w) nil)) c ∙ ap (λ (k : Forest). tree r o n k nil) b
+
+pub skip-none : (o : ℕ) (t : List ℕ) → nodes (bytewise skip) o t ≡ nil
+unfolding skip WHITESPACE COMMENT
+skip-none o t = none-of (bytewise skip) refl o t
+
+pub lit-none : (l : List ℕ) (o : ℕ) (t : List ℕ) → nodes (lit l) o t ≡ nil
+lit-none l o t = none-of (lit l) refl o t
+
+-- ---- the tokens
+
+pub identifier-leaf : (o : ℕ) (t : List ℕ) → hit (run (bytewise identifier) t) ≡ true → nodes (bytewise identifier) o t ≡ tree Rule.identifier o (taken (run (bytewise identifier) t)) nil nil
+unfolding identifier alpha digit alphanum
+identifier-leaf o t h = leaf-of Rule.identifier _ refl refl o t h
+
+pub payload-identifier-leaf : (o : ℕ) (t : List ℕ) → hit (run (bytewise payload-identifier) t) ≡ true → nodes (bytewise payload-identifier) o t ≡ tree Rule.payload-identifier o (taken (run (bytewise payload-identifier) t)) nil nil
+unfolding payload-identifier
+payload-identifier-leaf o t h = leaf-of Rule.payload-identifier _ refl refl o t h
+
+pub body-identifier-leaf : (o : ℕ) (t : List ℕ) → hit (run (bytewise body-identifier) t) ≡ true → nodes (bytewise body-identifier) o t ≡ tree Rule.body-identifier o (taken (run (bytewise body-identifier) t)) nil nil
+unfolding body-identifier
+body-identifier-leaf o t h = leaf-of Rule.body-identifier _ refl refl o t h
+
+pub integer-leaf : (o : ℕ) (t : List ℕ) → hit (run (bytewise integer) t) ≡ true → nodes (bytewise integer) o t ≡ tree Rule.integer o (taken (run (bytewise integer) t)) nil nil
+unfolding integer hexvalue intvalue digit hexdigit
+integer-leaf o t h = leaf-of Rule.integer _ refl refl o t h
+
+pub string-leaf : (o : ℕ) (t : List ℕ) → hit (run (bytewise string) t) ≡ true → nodes (bytewise string) o t ≡ tree Rule.string o (taken (run (bytewise string) t)) nil nil
+unfolding string
+string-leaf o t h = leaf-of Rule.string _ refl refl o t h
+
+pub size-modifier-leaf : (o : ℕ) (t : List ℕ) → hit (run (bytewise size-modifier) t) ≡ true → nodes (bytewise size-modifier) o t ≡ tree Rule.size-modifier o (taken (run (bytewise size-modifier) t)) nil nil
+unfolding size-modifier intvalue digit
+size-modifier-leaf o t h = leaf-of Rule.size-modifier _ refl refl o t h
+
+pub ENUM-leaf : (o : ℕ) (t : List ℕ) → hit (run (bytewise ENUM) t) ≡ true → nodes (bytewise ENUM) o t ≡ tree Rule.ENUM o (taken (run (bytewise ENUM) t)) nil nil
+unfolding ENUM WHITESPACE
+ENUM-leaf o t h = leaf-of Rule.ENUM _ refl refl o t h
+
+pub PACKET-leaf : (o : ℕ) (t : List ℕ) → hit (run (bytewise PACKET) t) ≡ true → nodes (bytewise PACKET) o t ≡ tree Rule.PACKET o (taken (run (bytewise PACKET) t)) nil nil
+unfolding PACKET WHITESPACE
+PACKET-leaf o t h = leaf-of Rule.PACKET _ refl refl o t h
+
+pub STRUCT-leaf : (o : ℕ) (t : List ℕ) → hit (run (bytewise STRUCT) t) ≡ true → nodes (bytewise STRUCT) o t ≡ tree Rule.STRUCT o (taken (run (bytewise STRUCT) t)) nil nil
+unfolding STRUCT WHITESPACE
+STRUCT-leaf o t h = leaf-of Rule.STRUCT _ refl refl o t h
+
+pub GROUP-leaf : (o : ℕ) (t : List ℕ) → hit (run (bytewise GROUP) t) ≡ true → nodes (bytewise GROUP) o t ≡ tree Rule.GROUP o (taken (run (bytewise GROUP) t)) nil nil
+unfolding GROUP WHITESPACE
+GROUP-leaf o t h = leaf-of Rule.GROUP _ refl refl o t h
+
+pub CHECKSUM-leaf : (o : ℕ) (t : List ℕ) → hit (run (bytewise CHECKSUM) t) ≡ true → nodes (bytewise CHECKSUM) o t ≡ tree Rule.CHECKSUM o (taken (run (bytewise CHECKSUM) t)) nil nil
+unfolding CHECKSUM WHITESPACE
+CHECKSUM-leaf o t h = leaf-of Rule.CHECKSUM _ refl refl o t h
+
+pub CUSTOM-FIELD-leaf : (o : ℕ) (t : List ℕ) → hit (run (bytewise CUSTOM-FIELD) t) ≡ true → nodes (bytewise CUSTOM-FIELD) o t ≡ tree Rule.CUSTOM-FIELD o (taken (run (bytewise CUSTOM-FIELD) t)) nil nil
+unfolding CUSTOM-FIELD WHITESPACE
+CUSTOM-FIELD-leaf o t h = leaf-of Rule.CUSTOM-FIELD _ refl refl o t h
+
+pub TEST-leaf : (o : ℕ) (t : List ℕ) → hit (run (bytewise TEST) t) ≡ true → nodes (bytewise TEST) o t ≡ tree Rule.TEST o (taken (run (bytewise TEST) t)) nil nil
+unfolding TEST WHITESPACE
+TEST-leaf o t h = leaf-of Rule.TEST _ refl refl o t h
+
+pub endianness-declaration-leaf : (o : ℕ) (t : List ℕ) → hit (run (bytewise endianness-declaration) t) ≡ true → nodes (bytewise endianness-declaration) o t ≡ tree Rule.endianness-declaration o (taken (run (bytewise endianness-declaration) t)) nil nil
+unfolding endianness-declaration WHITESPACE
+endianness-declaration-leaf o t h = leaf-of Rule.endianness-declaration _ refl refl o t h

@@ -2,13 +2,13 @@
 use Prim.Native.Nat.{ℕ, zero, suc, _+_, _-_, _≤_, _<_, max}
 use native.Mathlib.Omega.{arith}
 use mathlib.Core.Path.{_≡_, refl, ap, ap₂, subst, sym, _∙_}
-use mathlib.Core.List.{List, [], _∷_}
-use mathlib.Core.Bool.{Bool, true, false}
+use mathlib.Core.List.{List}
+use mathlib.Core.Bool.{true}
 use lib.ListN.{length, take, drop, length-drop}
 use lib.Seq.{drop-drop}
 use Rattle.meaning.specs.declared.Match.{Match}
 use Rattle.meaning.specs.declared.Match.the-variants.{Missed, Took}
-use Rattle.meaning.specs.Peg.{Peg, seq, star, quiet, lift, join, after, hushed, again, many, run, bytewise, hit, taken}
+use Rattle.meaning.specs.Peg.{Peg, seq, star, lift, join, after, hushed, again, many, run, bytewise, hit, taken}
 use Rattle.meaning.specs.Pdl.{WHITESPACE, block-comment, line-comment, COMMENT, skip}
 use Rattle.grammar.specs.Matching.{Within, Reads, Steps, eats}
 use Rattle.grammar.specs.Fits.{join-join, within-run}

@@ -1,6 +1,6 @@
 // Names, numbers, strings and keywords: the atomic rules, with no blank between their parts.
-ghost use Rattle.meaning.specs.Peg.{lit, seq, star, alt};
-ghost use Rattle.meaning.specs.Pdl.{text, WHITESPACE, skip, hexdigit, identifier, payload-identifier, body-identifier, intvalue, hexvalue, integer, string, size-modifier};
+ghost use Rattle.meaning.specs.Peg.{lit, seq, alt};
+ghost use Rattle.meaning.specs.Pdl.{text, WHITESPACE, skip, identifier, payload-identifier, body-identifier, intvalue, hexvalue, integer, string, size-modifier};
 ghost use Rattle.grammar.specs.Matching.{Within, Reads, Steps};
 use crate::blanks::then_blanks;
 use crate::bytes::Class;

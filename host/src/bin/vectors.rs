@@ -3,16 +3,17 @@
 use host::answer::{answer, Limits};
 use host::sources::{self, Rng};
 use host::{cases, print};
+use std::iter::repeat_with;
 use std::path::Path;
 use std::process::ExitCode;
 use std::{fs, io};
 
 const SEED: u64 = 7;
 
-/// Sources by chance: whole ones, damaged ones, and ones with many declarations.
+/// Sources by chance: whole ones, damaged ones, and accepted ones with many declarations.
 const VALID: usize = 90;
 const DAMAGED: usize = 90;
-const LONG: usize = 4;
+const LONG: usize = 8;
 
 fn main() -> io::Result<ExitCode> {
     let path = Path::new(env!("CARGO_MANIFEST_DIR")).join("../vectors/answers.txt");
@@ -38,9 +39,8 @@ fn sources() -> Vec<Vec<u8>> {
         let [source, other] = [(); 2].map(|()| sources::valid(&mut rng).into_bytes());
         sources.push(sources::damaged(&mut rng, &source, &other));
     }
-    for _ in 0..LONG {
-        sources.push(sources::declarations(&mut rng, 24).into_bytes());
-    }
+    let long = repeat_with(|| sources::declarations(&mut rng, 24).into_bytes());
+    sources.extend(long.filter(|source| answer(source, &Limits::PROGRAM).is_ok()).take(LONG));
     sources
 }
 

@@ -1,11 +1,13 @@
 //! Sources written by hand: every construct and every refusal that a source can bring.
 
+mod layouts;
 mod limits;
 mod matched;
 mod mismatched;
 mod not_utf8;
 mod readings;
 
+pub use layouts::LAYOUTS;
 pub use limits::sources as at_limits;
 pub use not_utf8::sources as not_utf8;
 pub use readings::READINGS;
@@ -26,8 +28,13 @@ pub fn sources() -> Vec<Vec<u8>> {
     [readings, matched(), mismatched(), not_utf8(), at_limits()].concat()
 }
 
+/// A source with the line `little_endian_packets` before the rest of it.
+pub fn headed(rest: &str) -> String {
+    format!("little_endian_packets\n{rest}")
+}
+
 fn whole(sources: &[&str], after_header: &[&str]) -> Vec<Vec<u8>> {
     let sources = sources.iter().map(|source| source.to_string());
-    let headed = after_header.iter().map(|rest| format!("little_endian_packets\n{rest}"));
+    let headed = after_header.iter().map(|rest| headed(rest));
     sources.chain(headed).map(String::into_bytes).collect()
 }

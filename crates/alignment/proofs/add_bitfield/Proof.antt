@@ -7,51 +7,24 @@ use borrow.Author.Needs.{needs}
 use Rattle.alignment.proofs.add_bitfield.Statement.{statement}
 use Rattle.alignment.proofs.add_bitfield.Tie as tie
 
--- src/lib.rt:146:9
-
--- src/lib.rt:148:9
-
--- src/lib.rt:148:9
-
--- src/lib.rt:148:9
 returns : tie.Need-returns
 returns c = bits-refused _ _ _ _ _ _ (c .before .bits-number .ensures) (c .if1 .taken)
 
--- src/lib.rt:150:17
 add-total : tie.Need-add-total
 add-total c = omega (arith, bits-fit _ _ (sym (c .before .before .bits-number .ensures) ∙ (c .before .if1 .left)) .under)
 
--- src/lib.rt:151:16
 add-next : tie.Need-add-next
 add-next c = omega (arith, bits-fit _ _ (sym (c .before .before .before .bits-number .ensures) ∙ (c .before .before .if1 .left)) .row)
 
--- src/lib.rt:152:5
-
--- src/lib.rt:153:8
-
--- src/lib.rt:154:21
 add-after : tie.Need-add-after
 add-after c = omega (arith, bits-fit _ _ (sym (c .before .before .before .before .before .before .before .before .before .before .bits-number .ensures) ∙ (c .before .before .before .before .before .before .before .before .before .if1 .left)) .chunk (sym (c .before .before .is-due .ensures) ∙ (c .before .if2 .taken)))
 
--- src/lib.rt:155:21
 sub-count : tie.Need-sub-count
 sub-count c = omega (arith, bits-fit _ _ (sym (c .before .before .before .before .before .before .before .before .before .before .before .bits-number .ensures) ∙ (c .before .before .before .before .before .before .before .before .before .before .if1 .left)) .good .ordered)
 
--- src/lib.rt:156:9
-
--- src/lib.rt:157:9
-
--- src/lib.rt:157:9
-
--- src/lib.rt:157:9
 returns-2 : tie.Need-returns-2
 returns-2 c = bits-chunk _ _ _ _ _ _ (c .before .before .before .before .before .before .before .before .before .before .before .before .before .before .before .bits-number .ensures) (c .before .before .before .before .before .before .before .before .before .before .before .before .before .before .if1 .left) _ (c .before .before .before .before .before .before .before .is-due .ensures) _ (c .before .before .before .before .before .before .before .before .before .before .put-placed .ensures) (c .before .before .before .before .before .before .if2 .taken) _ (c .before .before .put-chunk .ensures)
 
--- src/lib.rt:143:1
-
--- src/lib.rt:143:1
-
--- src/lib.rt:143:1
 returns-3 : tie.Need-returns-3
 returns-3 c = bits-staged _ _ _ _ _ _ (c .before .before .before .before .before .before .before .before .before .bits-number .ensures) (c .before .before .before .before .before .before .before .before .if1 .left) _ (c .before .is-due .ensures) _ (c .before .before .before .before .put-placed .ensures) (c .if2 .left)
 

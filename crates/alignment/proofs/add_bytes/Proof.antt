@@ -7,27 +7,12 @@ use borrow.Author.Needs.{needs}
 use Rattle.alignment.proofs.add_bytes.Statement.{statement}
 use Rattle.alignment.proofs.add_bytes.Tie as tie
 
--- src/lib.rt:181:9
-
--- src/lib.rt:183:9
-
--- src/lib.rt:183:9
-
--- src/lib.rt:183:9
 returns : tie.Need-returns
 returns c = bytes-refused _ _ _ _ _ _ (c .before .bytes-number .ensures) (c .if1 .taken)
 
--- src/lib.rt:185:5
-
--- src/lib.rt:190:21
 add-t16 : tie.Need-add-t16
 add-t16 c = omega (arith, bytes-fit _ _ (sym (c .before .before .before .before .before .before .bytes-number .ensures) ∙ (c .before .before .before .before .before .if1 .left)) .chunk)
 
--- src/lib.rt:178:1
-
--- src/lib.rt:178:1
-
--- src/lib.rt:178:1
 returns-2 : tie.Need-returns-2
 returns-2 c = bytes-chunk _ _ _ _ _ _ (c .before .before .before .before .before .before .bytes-number .ensures) (c .before .before .before .before .before .if1 .left) _ (c .before .before .before .put-chunk .ensures)
 

@@ -7,27 +7,12 @@ use borrow.Author.Needs.{needs}
 use Rattle.alignment.proofs.add_dyn_bytes.Statement.{statement}
 use Rattle.alignment.proofs.add_dyn_bytes.Tie as tie
 
--- src/lib.rt:201:9
-
--- src/lib.rt:203:9
-
--- src/lib.rt:203:9
-
--- src/lib.rt:203:9
 returns : tie.Need-returns
 returns c = dyn-refused _ _ _ _ _ (c .before .dyn-number .ensures) (c .if1 .taken)
 
--- src/lib.rt:205:5
-
--- src/lib.rt:210:21
 add-t15 : tie.Need-add-t15
 add-t15 c = omega (arith, dyn-fit _ (sym (c .before .before .before .before .before .before .dyn-number .ensures) ∙ (c .before .before .before .before .before .if1 .left)) .chunk)
 
--- src/lib.rt:198:1
-
--- src/lib.rt:198:1
-
--- src/lib.rt:198:1
 returns-2 : tie.Need-returns-2
 returns-2 c = dyn-chunk _ _ _ _ _ (c .before .before .before .before .before .before .dyn-number .ensures) (c .before .before .before .before .before .if1 .left) _ (c .before .before .before .put-chunk .ensures)
 

@@ -1,17 +1,12 @@
 -- `alignment::align` meets its contract: refused or accepted, as judged.
-use native.Mathlib.Omega.{arith}
 use Rattle.alignment.proofs.Laws.{end-refused, end-accepted}
 use borrow.Author.Needs.{needs}
 use Rattle.alignment.proofs.align.Statement.{statement}
 use Rattle.alignment.proofs.align.Tie as tie
 
--- src/lib.rt:221:9
-
--- src/lib.rt:223:9
 returns : tie.Need-returns
 returns c = end-refused _ _ _ _ (c .before .end-number .ensures) (c .if1 .taken)
 
--- src/lib.rt:218:1
 returns-2 : tie.Need-returns-2
 returns-2 c = end-accepted _ _ _ _ (c .before .end-number .ensures) (c .if1 .left)
 

@@ -5,37 +5,24 @@ use borrow.Author.Needs.{needs}
 use Rattle.alignment.proofs.bits_number.Statement.{statement}
 use Rattle.alignment.proofs.bits_number.Tie as tie
 
--- src/lib.rt:60:12
-
--- src/lib.rt:61:9
 returns : tie.Need-returns
 returns c = bits-18 _ _ (c .before .sound-number .ensures) (omega arith) _
 
--- src/lib.rt:63:8
 sub-if2 : tie.Need-sub-if2
 sub-if2 c = omega (arith, narrow _ _ (c .before .before .sound-number .ensures) (c .before .if1 .left))
 
--- src/lib.rt:64:9
 returns-2 : tie.Need-returns-2
 returns-2 c = bits-12 _ _ (c .before .before .before .sound-number .ensures) (omega arith) _ (omega arith)
 
--- src/lib.rt:67:9
 returns-3 : tie.Need-returns-3
 returns-3 c = bits-13 _ _ (c .before .before .before .before .before .sound-number .ensures) (omega arith) _ (omega arith) (omega arith)
 
--- src/lib.rt:69:15
-
--- src/lib.rt:69:8
-
--- src/lib.rt:71:13
 returns-4 : tie.Need-returns-4
 returns-4 c = bits-13′ _ _ (c .before .before .before .before .before .before .before .before .before .before .sound-number .ensures) (omega arith) _ (omega arith) (omega arith) _ (c .before .before .before .is-due .ensures) (c .before .before .if4 .taken) (omega arith)
 
--- src/lib.rt:57:1
 returns-5 : tie.Need-returns-5
 returns-5 c = bits-0 _ _ (c .before .before .before .before .before .before .before .before .before .before .sound-number .ensures) (omega arith) _ (omega arith) (omega arith) _ (c .before .before .before .is-due .ensures) (c .before .before .if4 .taken) (omega arith)
 
--- src/lib.rt:57:1
 returns-6 : tie.Need-returns-6
 returns-6 c = bits-0′ _ _ (c .before .before .before .before .before .before .before .before .sound-number .ensures) (omega arith) _ (omega arith) (omega arith) _ (c .before .is-due .ensures) (c .if4 .left)
 

@@ -5,19 +5,15 @@ use borrow.Author.Needs.{needs}
 use Rattle.alignment.proofs.end_number.Statement.{statement}
 use Rattle.alignment.proofs.end_number.Tie as tie
 
--- src/lib.rt:119:12
-
--- src/lib.rt:120:9
 returns : tie.Need-returns
 returns c = end-18 _ _ (c .before .sound-number .ensures) (omega arith)
 
--- src/lib.rt:123:9
 returns-2 : tie.Need-returns-2
-returns-2 c = end-16 _ _ (c .before .before .before .sound-number .ensures) (omega arith) (omega arith)
+returns-2 c = end-16 _ _ (c .before .before .before .sound-number .ensures) (omega arith) _ (c .before .is-aligned .ensures) (c .if2 .taken)
 
--- src/lib.rt:116:1
 returns-3 : tie.Need-returns-3
-returns-3 c = end-0 _ _ (c .before .before .before .sound-number .ensures) (omega arith) (omega arith)
+returns-3 c = end-0 _ _ (c .before .before .before .sound-number .ensures) (omega arith) _ (c .before .is-aligned .ensures) (c .if2 .left)
 
 pub end-number-spec : {M : Type 1} → statement M
-end-number-spec = tie.close (tie.spec (λ c κs. search needs) returns returns-2 returns-3)
+end-number-spec =
+    tie.close (tie.spec (λ c κs. search needs) returns (λ c κs. search needs) returns-2 returns-3)

@@ -1,20 +1,12 @@
 -- `alignment::put_chunk` meets its contract: the row put has its own length.
-use native.Mathlib.Omega.{arith}
 use lib.ListN.{length}
 use mathlib.Core.Path.{_≡_, _∙_}
 use borrow.Author.Needs.{needs}
 use Rattle.alignment.proofs.put_chunk.Statement.{statement}
 use Rattle.alignment.proofs.put_chunk.Tie as tie
 
--- src/lib.rt:139:24
-
--- src/lib.rt:139:5
-
--- src/lib.rt:136:1
-
--- src/lib.rt:136:1
 returns : tie.Need-returns
-returns c = let e : length ((c .before .before .before .before .before .before .args .t3)) ≡ 5 = search needs in (c .before .before .put-row .ensures) ∙ rw e
+returns c = let e : length (c .before .before .before .before .before .before .args .t3) ≡ 5 = search needs in (c .before .before .put-row .ensures) ∙ rw e
 
 pub put-chunk-spec : {M : Type 1} → statement M
 put-chunk-spec = tie.close (tie.spec (λ c. search needs) (λ c κs. search needs) (λ c. search needs) returns)

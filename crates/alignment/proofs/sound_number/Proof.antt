@@ -4,31 +4,24 @@ use Rattle.alignment.proofs.Laws.{sound-wide, sound-start, sound-placed
 use Rattle.alignment.proofs.sound_number.Statement.{statement}
 use Rattle.alignment.proofs.sound_number.Tie as tie
 
--- src/lib.rt:26:9
 returns : tie.Need-returns
 returns c = sound-wide _ (omega arith)
 
--- src/lib.rt:29:9
 returns-2 : tie.Need-returns-2
 returns-2 c = sound-start _ (omega arith) (omega arith)
 
--- src/lib.rt:32:9
 returns-3 : tie.Need-returns-3
 returns-3 c = sound-placed _ (omega arith) (omega arith) (omega arith)
 
--- src/lib.rt:35:9
 returns-4 : tie.Need-returns-4
 returns-4 c = sound-chunks _ (omega arith) (omega arith) (omega arith) (omega arith)
 
--- src/lib.rt:38:9
 returns-5 : tie.Need-returns-5
 returns-5 c = sound-staged _ (omega arith) (omega arith) (omega arith) (omega arith) (omega arith)
 
--- src/lib.rt:41:9
 returns-6 : tie.Need-returns-6
 returns-6 c = sound-width _ (omega arith) (omega arith) (omega arith) (omega arith) (omega arith) (omega arith)
 
--- src/lib.rt:22:1
 returns-7 : tie.Need-returns-7
 returns-7 c = sound-bare _ (omega arith) (omega arith) (omega arith) (omega arith) (omega arith) (omega arith)
 

@@ -4,7 +4,7 @@ use mathlib.Core.Path.{_≡_, refl, sym, _∙_}
 use native.Mathlib.Omega.{arith}
 use lib.ListN.{length, drop}
 use Rattle.meaning.specs.Convert.{digits}
-use Rattle.text.proofs.Laws.{fits, turn-bad, turn-good, turn-over, digits-end}
+use Rattle.text.proofs.ConvertTurns.{fits, turn-bad, turn-good, turn-over, digits-end}
 use borrow.Author.Needs.{needs}
 use Rattle.text.proofs.all_digits.Statement.{statement}
 use Rattle.text.proofs.all_digits.Tie as tie
@@ -25,13 +25,13 @@ returns-2 : tie.Need-returns-2 Inv-loop μ-loop
 returns-2 c = (c .beyond .ensures) ∙ sym ((c .before .before .before .before .before .before .loop .inv .1) ∙ turn-over _ _ (c .before .before .before .before .before .before .loop .i) _ _ (c .before .before .before .before .before .loop-test .taken) (c .before .before .before .to-digit .ensures) (c .before .before .if1 .left) (c .before .before .before .before .before .before .before .before .pre .0) (c .before .before .before .before .before .before .before .before .pre .1) (c .before .if2 .taken))
 
 mul-acc : tie.Need-mul-acc Inv-loop μ-loop
-mul-acc c = omega (arith, fits _ _ _ (c .before .before .before .before .before .before .before .pre .0) (omega (arith, (c .before .before .before .before .before .before .before .pre), (c .before .if1 .left))) (c .if2 .left))
+mul-acc c = omega (arith, fits _ _ _ (c .before .before .before .before .before .before .before .pre .0) (c .before .before .before .before .before .before .before .pre .1) (c .before .if1 .left) (c .if2 .left))
 
 add-acc : tie.Need-add-acc Inv-loop μ-loop
-add-acc c = omega (arith, fits _ _ _ (c .before .before .before .before .before .before .before .pre .0) (omega (arith, (c .before .before .before .before .before .before .before .pre), (c .before .if1 .left))) (c .if2 .left))
+add-acc c = omega (arith, fits _ _ _ (c .before .before .before .before .before .before .before .pre .0) (c .before .before .before .before .before .before .before .pre .1) (c .before .if1 .left) (c .if2 .left))
 
 loop-again : tie.Need-loop-again Inv-loop μ-loop
-loop-again c = (fits _ _ _ (c .before .before .before .before .before .before .before .pre .0) (omega (arith, (c .before .before .before .before .before .before .before .pre), (c .before .if1 .left))) (c .if2 .left), (c .before .before .before .before .before .loop .inv .1) ∙ turn-good _ _ (c .before .before .before .before .before .loop .i) _ _ (c .before .before .before .before .loop-test .taken) (c .before .before .to-digit .ensures) (c .before .if1 .left))
+loop-again c = (fits _ _ _ (c .before .before .before .before .before .before .before .pre .0) (c .before .before .before .before .before .before .before .pre .1) (c .before .if1 .left) (c .if2 .left), (c .before .before .before .before .before .loop .inv .1) ∙ turn-good _ _ (c .before .before .before .before .before .loop .i) _ _ (c .before .before .before .before .loop-test .taken) (c .before .before .to-digit .ensures) (c .before .if1 .left))
 
 returns-3 : tie.Need-returns-3 Inv-loop μ-loop
 returns-3 c = sym ((c .before .loop .inv .1) ∙ digits-end _ _ (c .before .loop .i) _ (c .loop-test .left) (c .before .loop .inv .0))

@@ -3,7 +3,7 @@ use Prim.Native.Nat.{_-_, _^_}
 use mathlib.Core.Path.{_≡_, refl, sym, _∙_}
 use lib.ListN.{length, drop}
 use Rattle.meaning.specs.Convert.{digits}
-use Rattle.text.proofs.Laws.{turn-bad, turn-beyond, beyond-end}
+use Rattle.text.proofs.ConvertTurns.{turn-bad, turn-beyond, beyond-end}
 use borrow.Author.Needs.{needs}
 use Rattle.text.proofs.beyond.Statement.{statement}
 use Rattle.text.proofs.beyond.Tie as tie

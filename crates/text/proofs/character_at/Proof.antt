@@ -1,5 +1,5 @@
 -- `character_at` meets its contract: the end, one byte of ASCII, or a wide form.
-use Rattle.text.proofs.Laws.{character-end, character-low}
+use Rattle.text.proofs.Utf8Turns.{character-end, character-low}
 use borrow.Author.Needs.{needs}
 use Rattle.text.proofs.character_at.Statement.{statement}
 use Rattle.text.proofs.character_at.Tie as tie

@@ -1,6 +1,6 @@
 -- `convert` meets its contract: too short for the prefix, another first or second byte, or the prefix.
 use mathlib.Core.Path.{_∙_}
-use Rattle.text.proofs.Laws.{prefix-short, prefix-first, prefix-second, prefix-both}
+use Rattle.text.proofs.ConvertTurns.{prefix-short, prefix-first, prefix-second, prefix-both}
 use borrow.Author.Needs.{needs}
 use Rattle.text.proofs.convert.Statement.{statement}
 use Rattle.text.proofs.convert.Tie as tie

@@ -6,7 +6,7 @@ use lib.ListN.{length, drop}
 use Rattle.meaning.specs.Choice.{pick}
 use Rattle.meaning.specs.Utf8.{has}
 use Rattle.text.specs.Utf8Laws.{octets}
-use Rattle.text.proofs.Laws.{octet-inside, left, tails-start, tails-short, tails-more, tails-missed, tails-end}
+use Rattle.text.proofs.Utf8Turns.{octet-inside, left, tails-start, tails-short, tails-more, tails-missed, tails-end}
 use borrow.Author.Needs.{needs}
 use Rattle.text.proofs.followed.Statement.{statement}
 use Rattle.text.proofs.followed.Tie as tie

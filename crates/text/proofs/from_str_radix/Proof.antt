@@ -1,6 +1,6 @@
 -- `from_str_radix` meets its contract: nothing, no sign, the sign alone, or the sign and digits.
 use mathlib.Core.Path.{_∙_}
-use Rattle.text.proofs.Laws.{sign-empty, sign-none, sign-alone, sign-more}
+use Rattle.text.proofs.ConvertTurns.{sign-empty, sign-none, sign-alone, sign-more}
 use borrow.Author.Needs.{needs}
 use Rattle.text.proofs.from_str_radix.Statement.{statement}
 use Rattle.text.proofs.from_str_radix.Tie as tie

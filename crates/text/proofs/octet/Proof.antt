@@ -1,5 +1,5 @@
 -- `octet` meets its contract: past the end, below the octet, or the last test.
-use Rattle.text.proofs.Laws.{octet-end, octet-under, octet-upto}
+use Rattle.text.proofs.Utf8Turns.{octet-end, octet-under, octet-upto}
 use borrow.Author.Needs.{needs}
 use Rattle.text.proofs.octet.Statement.{statement}
 use Rattle.text.proofs.octet.Tie as tie

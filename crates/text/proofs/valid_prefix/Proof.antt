@@ -4,7 +4,7 @@ use mathlib.Core.Path.{_≡_}
 use native.Mathlib.Omega.{arith}
 use lib.ListN.{length, drop}
 use Rattle.meaning.specs.Utf8.{valid}
-use Rattle.text.proofs.Laws.{valid-turn, valid-none, valid-end}
+use Rattle.text.proofs.Utf8Turns.{valid-turn, valid-none, valid-end}
 use borrow.Author.Needs.{needs}
 use Rattle.text.proofs.valid_prefix.Statement.{statement}
 use Rattle.text.proofs.valid_prefix.Tie as tie

@@ -1,7 +1,7 @@
 -- `wide_at` meets its contract: the first byte settles the form of the table.
 use mathlib.Core.Path.{refl}
 use native.Mathlib.Omega.{arith}
-use Rattle.text.proofs.Laws.{wide-form, wide-none}
+use Rattle.text.proofs.Utf8Turns.{wide-form, wide-none}
 use borrow.Author.Needs.{needs}
 use Rattle.text.proofs.wide_at.Statement.{statement}
 use Rattle.text.proofs.wide_at.Tie as tie

@@ -60,6 +60,36 @@ pub fn feed_damaged(rng: &mut Rng, reading: &Reading, seen: &mut Seen) {
     }
 }
 
+/// Feeds rows that no reading makes: an alone packet with one field, and one word of it changed.
+pub fn damaged_rows() {
+    let mut declaration = [0; 17];
+    (declaration[0], declaration[14]) = (2, 1);
+    let mut scalar = [0; 20];
+    (scalar[0], scalar[13], scalar[14]) = (12, 1, 8);
+    let feed_one = |declaration: [u64; 17], field: [u64; 20], row| {
+        let layout = feed(&declaration, &field, row, Room::ENOUGH);
+        layout.map_or_else(|refusal| (refusal.number, refusal.place), |_| (0, 0))
+    };
+    assert_eq!(feed_one(declaration, scalar, 0), (0, 0));
+    assert_eq!(feed_one(declaration, scalar, 1), (15, 1));
+    // The kind, the first row and the count of the declaration.
+    for (word, value, number) in
+        [(0, 1, 15), (0, 5, 15), (13, 1, 17), (13, u64::MAX, 17), (14, 2, 17), (14, u64::MAX, 17)]
+    {
+        let mut damaged = declaration;
+        damaged[word] = value;
+        assert_eq!(feed_one(damaged, scalar, 0), (number, 0), "word {word}: {value}");
+    }
+    // The kind and the two flags of the field; a condition does not mend them.
+    for condition in [0, 1] {
+        for (word, value) in [(0, 0), (0, 15), (13, 0), (13, 2), (15, 2)] {
+            let mut damaged = scalar;
+            (damaged[19], damaged[word]) = (condition, value);
+            assert_eq!(feed_one(declaration, damaged, 0), (17, 0), "word {word}: {value}");
+        }
+    }
+}
+
 /// Makes calls by chance, and holds each against 01's own words.
 pub fn calls(rng: &mut Rng, seen: &mut Seen) {
     let room = Room { placed: rng.below(12), chunks: rng.below(8) };

@@ -6,12 +6,11 @@ mod tally;
 
 use aligning::{CALL, DAMAGED, LAYOUT};
 use host::aligner::{Aligner, Call, Room};
-use host::answer::{answer, read, Limits};
-use host::cases::{self, READINGS};
+use host::answer::{answer, read, read_into, Limits, Words};
+use host::cases::{self, LAYOUTS, READINGS};
 use host::integer::convert;
-use host::layout::{feed, Layout};
 use host::print;
-use host::reading::{Refusal, DECLARATIONS, FIELDS};
+use host::reading::Refusal;
 use host::sources::{self, Rng, FRAMES};
 use reading::{ANSWER, CONDITIONAL, KINDS, TEST};
 use std::process::ExitCode;
@@ -53,7 +52,7 @@ struct Run {
 }
 
 impl Run {
-    /// P1 to P9 and their like, the layout of P3, and P10 to P12.
+    /// P1 to P12 and their like.
     fn readings(&mut self) {
         for (source, lines) in READINGS {
             self.tally.check(|| {
@@ -61,10 +60,17 @@ impl Run {
                 assert_eq!(print::answer(&answer), *lines, "{source:?}");
             });
         }
-        self.tally.check(layout_of_p3);
+        for (rest, lines) in LAYOUTS {
+            self.tally.check(|| {
+                let reading = read(cases::headed(rest).as_bytes(), Limits::PROGRAM.bytes);
+                assert_eq!(print::layouts(&reading.expect(rest)), *lines, "{rest:?}");
+            });
+        }
+        self.tally.check(lent_tables);
+        self.tally.check(aligning::damaged_rows);
         self.tally.check(converter);
         self.tally.check(aligner);
-        println!("readings: {} and the layout of P3, P10, P11, P12", READINGS.len());
+        println!("readings: {} sources, {} layouts", READINGS.len(), LAYOUTS.len());
     }
 
     fn source(&mut self, source: &[u8], seen: &mut Seen) {
@@ -159,10 +165,12 @@ impl Run {
         let mut seen = Seen::default();
         for _ in 0..count {
             self.tally.check(|| aligning::calls(&mut rng, &mut seen));
-            let source = sources::valid(&mut rng);
-            if let Ok(reading) = read(source.as_bytes(), Limits::PROGRAM.bytes) {
-                self.tally.check(|| aligning::feed_damaged(&mut rng, &reading, &mut seen));
-            }
+            self.tally.check(|| {
+                let source = sources::valid(&mut rng);
+                if let Ok(reading) = read(source.as_bytes(), Limits::PROGRAM.bytes) {
+                    aligning::feed_damaged(&mut rng, &reading, &mut seen);
+                }
+            });
         }
         self.tally.check(|| seen.require(CALL, [0, 10, 11, 12, 13], count / 10));
         self.tally.check(|| seen.require(DAMAGED, [0, 10, 12, 13, 14, 15, 16, 17], count / 300));
@@ -190,14 +198,20 @@ fn library_length(rng: &mut Rng) {
     assert_eq!(answer(full, &limits), Err(Refusal::new(1, limits.bytes as u64)));
 }
 
-fn layout_of_p3() {
-    let source = b"little_endian_packets\npacket A {x: 3 , y: 5}";
-    let reading = read(source, Limits::PROGRAM.bytes).expect("P3 is accepted");
-    let [declarations, fields] = [DECLARATIONS, FIELDS].map(|table| &reading.tables[table]);
-    let layout = feed(declarations, fields, 0, Room::ENOUGH);
-    let (placed, chunks) = (vec![[0, 3, 0], [1, 5, 3]], vec![[1, 0, 2, 8, 0]]);
-    assert_eq!(layout, Ok(Layout { placed, chunks }));
-    assert_eq!(print::layout(0, &layout), "L 0 0 0 0 2 1\nP 0 3 0\nP 1 5 3\nK 1 0 2 8 0\n");
+const P3: &[u8] = b"little_endian_packets\npacket A {x: 3 , y: 5}";
+
+/// P3 in tables with words to spare, which stay, and in one that is a word too short.
+fn lent_tables() {
+    let mut tables = [20, 45, 3, 0, 7].map(|words| vec![9; words]);
+    let words = read_into(P3, &mut tables);
+    assert_eq!((words.refusal, words.counts), (Refusal::default(), [1, 2, 0, 0, 0]));
+    assert_eq!((tables[0][0], &tables[0][17..]), (2, &[9; 3][..]));
+    assert_eq!((tables[1][34], &tables[1][40..]), (5, &[9; 5][..]));
+    tables[1].truncate(39);
+    let before = tables.clone();
+    let refusal = Refusal { number: 5, place: 2, reason: 2 };
+    assert_eq!(read_into(P3, &mut tables), Words { refusal, ..Words::default() });
+    assert_eq!(tables, before);
 }
 
 /// P10, and the text that the Rust and 01 call by different reasons.

@@ -30,7 +30,7 @@ pub fn check(source: &[u8], seen: &mut Seen, constructs: &mut Seen) {
             note(source, reading, constructs);
             aligning::feed_all(reading, constructs);
         }
-        Err(refusal) if refusal.number == 3 => mismatch(source, refusal.place as usize),
+        Err(refusal) if refusal.number == 3 => mismatch(utf8(source), refusal.place as usize),
         Err(_) => {}
     }
     let answer = answer.and_then(|reading| fit(reading, Limits::PROGRAM.rows));
@@ -67,17 +67,26 @@ fn room(reading: &Reading) {
     }
 }
 
-/// The place of 3 parts the source: what stands before it is a whole source unless the
-/// endianness line is missing, and what follows it begins with nothing that could go on.
-fn mismatch(source: &[u8], place: usize) {
-    const HEADER: &[u8] = b"big_endian_packets\n";
-    let bytes = usize::MAX;
+/// The place of 3 is where the longest beginning ends that is a source by itself, blanks
+/// behind it included; without an endianness line it is where the leading blanks end.
+fn mismatch(source: &str, place: usize) {
+    let matches = |text: &str| PDLParser::parse(Rule::file, text).is_ok();
     let (before, after) = source.split_at(place);
-    let whole = !matches!(read(before, bytes), Err(Refusal { number: 3, .. }));
-    let go_on = [HEADER, after].concat();
-    let alone = read(if whole { &go_on } else { after }, bytes);
-    let start = if whole { HEADER.len() as u64 } else { 0 };
-    assert_eq!(alone, Err(Refusal::new(3, start)), "the place of {source:?}");
+    let blanks_only = || matches(&format!("{before}\nbig_endian_packets\n"));
+    assert!(matches(before) || blanks_only(), "no whole source up to {place}: {source:?}");
+    assert!(!begins_with_blank(after), "a blank at {place}: {source:?}");
+    // A longer one would end with a declaration or with the endianness line.
+    let declarations = after.match_indices(['}', '"']).map(|(offset, _)| offset + 1);
+    let headers = ["little_endian_packets\n", "big_endian_packets\n"].map(str::len);
+    for end in declarations.chain(headers) {
+        let longer = source.get(..place + end).is_some_and(matches);
+        assert!(!longer, "more than {place} bytes are a source: {source:?}");
+    }
+}
+
+fn begins_with_blank(text: &str) -> bool {
+    let block = text.strip_prefix("/*").is_some_and(|rest| rest.contains("*/"));
+    block || text.starts_with("//") || text.starts_with([' ', '\t', '\r', '\n'])
 }
 
 fn note(source: &[u8], reading: &Reading, constructs: &mut Seen) {
@@ -90,8 +99,12 @@ fn note(source: &[u8], reading: &Reading, constructs: &mut Seen) {
         constructs.note(CONDITIONAL, field[0]);
     }
     // Test declarations make no rows.
-    let source = std::str::from_utf8(source).expect("an accepted source");
-    let pairs = PDLParser::parse(Rule::file, source).expect("an accepted source");
+    let pairs = PDLParser::parse(Rule::file, utf8(source)).expect("an accepted source");
     let tests = pairs.flatten().filter(|pair| pair.as_rule() == Rule::test_declaration);
     tests.for_each(|_| constructs.note(TEST, 0));
+}
+
+/// A source that was not refused for its bytes.
+fn utf8(source: &[u8]) -> &str {
+    std::str::from_utf8(source).expect("a source in UTF-8")
 }

@@ -28,13 +28,21 @@ part-run-of-start : tie.Need-part-run-of-start Inv-loop μ-loop
 part-run-of-start c = comment-fits (c .before .before .before .before .before .loop .inv) (c .before .before .before .comment .ensures) _ _ (c .before .k .given .1)
 
 add-n-2 : tie.Need-add-n-2 Inv-loop μ-loop
-add-n-2 c = omega (arith, (walk-more (c .before .before .before .before .before .before .before .loop .inv) (c .before .before .before .before .before .comment .ensures) _ _ (c .before .before .before .k .given .1) (c .run-of2 .ensures)) .fits)
+add-n-2 c =
+    let a = c .before .before .before in
+    omega (arith, (walk-more (a .before .before .before .before .loop .inv) (a .before .before .comment .ensures) _ _ (a .k .given .1) (c .run-of2 .ensures)) .fits)
 
 loop-less : tie.Need-loop-less Inv-loop μ-loop
-loop-less c = omega (arith, comment-some (c .before .before .before .before .before .before .before .loop .inv) (c .before .before .before .before .before .comment .ensures) _ _ (c .before .before .before .k .given .1), (walk-more (c .before .before .before .before .before .before .before .loop .inv) (c .before .before .before .before .before .comment .ensures) _ _ (c .before .before .before .k .given .1) (c .run-of2 .ensures)) .fits)
+loop-less c =
+    let a = c .before .before .before in
+    let v = a .before .before .before .before .loop .inv in
+    let h = a .before .before .comment .ensures in
+    omega (arith, comment-some v h _ _ (a .k .given .1), (walk-more v h _ _ (a .k .given .1) (c .run-of2 .ensures)) .fits)
 
 loop-again : tie.Need-loop-again Inv-loop μ-loop
-loop-again c = walk-more (c .before .before .before .before .before .before .before .loop .inv) (c .before .before .before .before .before .comment .ensures) _ _ (c .before .before .before .k .given .1) (c .run-of2 .ensures)
+loop-again c =
+    let a = c .before .before .before in
+    walk-more (a .before .before .before .before .loop .inv) (a .before .before .comment .ensures) _ _ (a .k .given .1) (c .run-of2 .ensures)
 
 pub blanks-spec : {M : Type 1} → statement M
 blanks-spec =

@@ -1,56 +1,23 @@
 use borrow.Author.Needs.{needs}
+use Rattle.grammar.specs.Steps.{missed, took-le}
+use Rattle.lexis.specs.Skips.{skip-steps}
 use Rattle.lexis.proofs.blanks.then_blanks.Statement.{statement}
 use Rattle.lexis.proofs.blanks.then_blanks.Tie as tie
-use Rattle.lexis.proofs.blanks.then_blanks.Reads as reads
-use Rattle.lexis.proofs.blanks.then_blanks.Lts as lts
-use Rattle.lexis.proofs.blanks.blanks.Reads as blanks-reads
 
--- src/blanks.rt:61:23
-enum-known-m : tie.Need-enum-known-m
-enum-known-m c = search needs
-
--- src/blanks.rt:62:21
-enum-known-m-2 : tie.Need-enum-known-m-2
-enum-known-m-2 c = search needs
-
--- src/blanks.rt:62:53
 sub-blanks : tie.Need-sub-blanks
-sub-blanks c = ?
+sub-blanks c = took-le _ _ _ _ (c .before .before .before .before .pre) (c .before .m2 .given .1)
 
--- src/blanks.rt:62:53
 part-blanks-start : tie.Need-part-blanks-start
-part-blanks-start c = ?
+part-blanks-start c = took-le _ _ _ _ (c .before .before .before .before .pre) (c .before .m2 .given .1)
 
--- src/blanks.rt:62:53
-part-blanks-end : tie.Need-part-blanks-end
-part-blanks-end c = search needs
-
--- src/blanks.rt:62:46
-blanks-requires : tie.Need-blanks-requires
-blanks-requires c κs = search needs
-
--- src/blanks.rt:62:42
-add-t12 : tie.Need-add-t12
-add-t12 c = search needs
-
--- src/blanks.rt:56:1
 returns : tie.Need-returns
-returns c = ?
+returns c = missed _ (c .before .before .before .before .pre) (c .before .m .given .1)
 
--- src/blanks.rt:56:1
 returns-2 : tie.Need-returns-2
-returns-2 c = ?
+returns-2 c = skip-steps _ _ (c .before .before .before .before .before .before .pre) (c .before .before .before .m2 .given .1) (c .blanks .ensures)
 
 pub then-blanks-spec : {M : Type 1} → statement M
 then-blanks-spec =
     tie.close
-    (tie.spec
-    enum-known-m
-    enum-known-m-2
-    sub-blanks
-    part-blanks-start
-    part-blanks-end
-    blanks-requires
-    add-t12
-    returns
-    returns-2)
+    (tie.spec (λ c. search needs) (λ c. search needs) sub-blanks part-blanks-start (λ c. search needs) (λ c κs. search needs) (λ c. search needs)
+    returns returns-2)
