@@ -78,6 +78,7 @@ module _ {ps cs : List ℕ} {b : ByteAligner} {same x : World} where
   went : (c : ByteAligner) → x ≡ told ps cs c → Agrees ps cs b same x 0 (done c)
   went c e = record { agree = λ f. (refl, e) }
 
+-- ---- the tests themselves
 positive : (n : ℕ) → ltb 0 n ≡ not (eqb n 0)
 positive zero = refl
 positive (suc n) = simp (lt-ltb 0 (suc n) (omega arith), ne-eqb (suc n) 0 (λ e. omega arith))
@@ -93,6 +94,7 @@ turned false x y = refl
 clear : (w : World) → Sound w → ltb 0 (sound w) ≡ false
 clear w s = rw (sound-is w s)
 
+-- ---- call by call
 module _ (ps cs : List ℕ) where
   either : (d : Bool) (x y : World) (c e : ByteAligner) → x ≡ told ps cs c → y ≡ told ps cs e → pick d x y ≡ told ps cs (pick d c e)
   either true x y c e p q = p
@@ -102,6 +104,7 @@ module _ (ps cs : List ℕ) where
     abbrev w : World
     w = told ps cs b
 
+    -- a field more, committed or not
     bits-told : (s v : ℕ) → bits-done s v w ≡ told ps cs (try-commit-staged-chunk (push-field s v b))
     unfolding told bits-done due
     bits-told s v =
@@ -147,6 +150,7 @@ module _ (ps cs : List ℕ) where
   agrees (Call.add-dyn-bytes s) b g = dyn-agree b g s .agree
   agrees Call.align b g = end-agree b g .agree
 
+  -- every call keeps the invariant, and is refused exactly where the Rust panics
   pub kept : (k : Call) (w : World) (b : ByteAligner) → Same ps cs w b → (call k w .number ≡ 13 → ⊥)
       → (call k w .number ≡ number (perform k b)) × Same ps cs (call k w .left) (after b (perform k b))
   kept k w b s f =
@@ -162,7 +166,7 @@ module _ (ps cs : List ℕ) where
       let q = side-by-side ks (call k w .left) (after b (perform k b)) (r .1) (f .1) in
       (rw (r .0, q .0), q .1)
 
--- the theorem
+-- from a fresh state, over any calls of which none was refused for room: the same numbers, and tables that tell the Rust's aligner
 pub same-from-fresh : (ks : List Call) (ps cs : List ℕ) → Roomy (numbers ks (world fresh ps cs))
     → (numbers ks (world fresh ps cs) ≡ answers ks new) × Same ps cs (calls ks (world fresh ps cs)) (performed ks new)
 unfolding told puts

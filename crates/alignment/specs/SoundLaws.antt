@@ -1,4 +1,4 @@
--- A call leaves a state sound that was sound: from a fresh state no call answers 18.
+-- A call leaves a sound state sound, and the fresh state is sound over any tables.
 use Prim.Native.Nat.{ℕ, zero, suc, _+_, _-_, _≤_}
 use mathlib.Core.Path.{_≡_, refl, sym, _∙_}
 use mathlib.Core.List.{List, [], _∷_}

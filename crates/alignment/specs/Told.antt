@@ -10,6 +10,7 @@ use Rattle.meaning.specs.Alignment.{World, world}
 use Rattle.ast.specs.RowLaws.{puts-next}
 use Rattle.alignment.specs.ByteAligner.{Field, Chunk, bitpack, bytes, dyn-bytes, ByteAligner, push-field, push-chunk, commit}
 
+-- a placed row
 abbrev pub words : Field → List ℕ
 words f = f .symbol ∷ f .width ∷ f .offset ∷ []
 

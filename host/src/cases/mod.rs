@@ -25,7 +25,8 @@ pub fn mismatched() -> Vec<Vec<u8>> {
 /// All of them.
 pub fn sources() -> Vec<Vec<u8>> {
     let readings = READINGS.iter().map(|(source, _)| source.as_bytes().to_vec()).collect();
-    [readings, matched(), mismatched(), not_utf8(), at_limits()].concat()
+    let layouts = LAYOUTS.iter().map(|(rest, _)| headed(rest).into_bytes()).collect();
+    [readings, layouts, matched(), mismatched(), not_utf8(), at_limits()].concat()
 }
 
 /// A source with the line `little_endian_packets` before the rest of it.

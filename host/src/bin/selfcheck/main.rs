@@ -38,7 +38,7 @@ fn main() -> ExitCode {
     run.valid(count);
     run.damaged(count);
     run.short();
-    run.long(count / 200);
+    run.long(count / 200 + 100);
     run.alignments(count);
     run.constructs(count);
     println!("{} passed, {} failed", run.tally.passed, run.tally.failed);

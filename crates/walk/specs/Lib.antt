@@ -1,0 +1,4 @@
+pub mod State
+pub mod StateLaws
+pub mod Held
+pub mod Said

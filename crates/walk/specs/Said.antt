@@ -1,0 +1,84 @@
+-- What the spans of a match say of the source: numbers, names, and the words of a row. The match's text stands at offset o.
+use Prim.Native.Nat.{ℕ, _+_, _≤_}
+use mathlib.Core.List.{List, [], _∷_}
+use lib.ListN.{length, take, drop}
+use lib.Dec.{eqb}
+use Rattle.meaning.specs.declared.SourceLocation.{SourceLocation}
+use Rattle.meaning.specs.Choice.{pick}
+use Rattle.meaning.specs.Convert.{convert, reasonOf, valueOf}
+use Rattle.meaning.specs.Tables.{Item, int}
+use Rattle.spans.specs.declared.Span.{Span}
+use Rattle.spans.specs.declared.Token.{Token}
+use Rattle.spans.specs.declared.Token.the-variants.{Absent, Identifier, PayloadIdentifier, BodyIdentifier, Integer, Text, SizeModifier}
+use Rattle.walk.specs.declared.Name.{Name}
+use Rattle.walk.specs.declared.Number.{Number}
+
+-- ---- numbers: a flag, and where it is 1 the integer's place, reason and value
+unfoldable pub numberAt : List ℕ → ℕ → ℕ → Number
+numberAt src o n =
+    record { found = 1; place = o; reason = reasonOf (convert (take n (drop o src))); value = valueOf (convert (take n (drop o src))) }
+
+abbrev pub noNumber : Number
+noNumber = record { found = 0; place = 0; reason = 0; value = 0 }
+
+abbrev pub tokenNumber : List ℕ → ℕ → Token → Number
+tokenNumber src o Absent = noNumber
+tokenNumber src o (Identifier s) = noNumber
+tokenNumber src o (PayloadIdentifier s) = noNumber
+tokenNumber src o (BodyIdentifier s) = noNumber
+tokenNumber src o (Integer s) = numberAt src (o + s .start) (s .len)
+tokenNumber src o (Text s) = noNumber
+tokenNumber src o (SizeModifier s) = noNumber
+
+-- the item that the walk meets where there is a number
+abbrev pub said : Number → List Item
+said x = pick (eqb (x .found) 1) (int (x .place) (x .reason) ∷ []) []
+
+-- ---- names: offset and length, 0 0 where there is none
+abbrev pub spanName : ℕ → Span → Name
+spanName o s = record { offset = o + s .start; len = s .len }
+
+abbrev pub noName : Name
+noName = record { offset = 0; len = 0 }
+
+abbrev pub tokenName : ℕ → Token → Name
+tokenName o Absent = noName
+tokenName o (Identifier s) = spanName o s
+tokenName o (PayloadIdentifier s) = spanName o s
+tokenName o (BodyIdentifier s) = spanName o s
+tokenName o (Integer s) = noName
+tokenName o (Text s) = noName
+tokenName o (SizeModifier s) = spanName o s
+
+-- ---- a span, or a token's, lies inside a text of n bytes
+abbrev pub Inside : ℕ → Span → Type 0
+Inside n s = s .start + s .len ≤ n
+
+abbrev pub InsideToken : ℕ → Token → Type 0
+InsideToken n Absent = Unit {0}
+InsideToken n (Identifier s) = Inside n s
+InsideToken n (PayloadIdentifier s) = Inside n s
+InsideToken n (BodyIdentifier s) = Inside n s
+InsideToken n (Integer s) = Inside n s
+InsideToken n (Text s) = Inside n s
+InsideToken n (SizeModifier s) = Inside n s
+
+-- ---- rows, word by word as in 01, from what was said
+unfoldable pub tagWords : ℕ → SourceLocation → SourceLocation → Name → Number → Number → ℕ → List ℕ
+tagWords kind p q id v e inner =
+    kind ∷ p .offset ∷ p .line ∷ p .column ∷ q .offset ∷ q .line ∷ q .column ∷ id .offset ∷ id .len ∷ v .value ∷ e .value ∷ inner ∷ []
+
+unfoldable pub constraintWords : ℕ → SourceLocation → SourceLocation → Name → Name → Number → List ℕ
+constraintWords kind p q id tag v =
+    kind ∷ p .offset ∷ p .line ∷ p .column ∷ q .offset ∷ q .line ∷ q .column ∷ id .offset ∷ id .len ∷ tag .offset ∷ tag .len ∷ v .value ∷ []
+
+unfoldable pub fieldWords : ℕ → SourceLocation → SourceLocation → Name → Name → Name → Number → Number → ℕ → ℕ → ℕ → List ℕ
+fieldWords kind p q a b c na nb first count cond =
+    kind ∷ p .offset ∷ p .line ∷ p .column ∷ q .offset ∷ q .line ∷ q .column
+    ∷ a .offset ∷ a .len ∷ b .offset ∷ b .len ∷ c .offset ∷ c .len
+    ∷ na .found ∷ na .value ∷ nb .found ∷ nb .value ∷ first ∷ count ∷ cond ∷ []
+
+unfoldable pub declarationWords : ℕ → SourceLocation → SourceLocation → Name → Name → Number → ℕ → ℕ → ℕ → ℕ → List ℕ
+declarationWords kind p q id other width first count cfirst ccount =
+    kind ∷ p .offset ∷ p .line ∷ p .column ∷ q .offset ∷ q .line ∷ q .column
+    ∷ id .offset ∷ id .len ∷ other .offset ∷ other .len ∷ width .found ∷ width .value ∷ first ∷ count ∷ cfirst ∷ ccount ∷ []
