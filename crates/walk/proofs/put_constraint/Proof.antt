@@ -8,7 +8,7 @@ use Rattle.walk.proofs.put_constraint.Tie as tie
 returns : tie.Need-returns
 returns c =
     let b = c .before .before .before in
-    let e : length (b .before .before .before .before .args .constraint) ≡ 12 = search needs in
+    let e : length (b .before .before .before .before .args .t2) ≡ 12 = search needs in
     constraint-put _ _ _ _ e (b .put-row .ensures)
 
 pub put-constraint-spec : {M : Type 1} → statement M

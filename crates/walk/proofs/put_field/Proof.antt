@@ -8,7 +8,7 @@ use Rattle.walk.proofs.put_field.Tie as tie
 returns : tie.Need-returns
 returns c =
     let b = c .before .before .before in
-    let e : length (b .before .before .before .before .args .field) ≡ 20 = search needs in
+    let e : length (b .before .before .before .before .args .t2) ≡ 20 = search needs in
     field-put _ _ _ _ e (b .put-row .ensures)
 
 pub put-field-spec : {M : Type 1} → statement M

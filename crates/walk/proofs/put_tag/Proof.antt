@@ -8,7 +8,7 @@ use Rattle.walk.proofs.put_tag.Tie as tie
 returns : tie.Need-returns
 returns c =
     let b = c .before .before .before in
-    let e : length (b .before .before .before .before .args .tag) ≡ 12 = search needs in
+    let e : length (b .before .before .before .before .args .t2) ≡ 12 = search needs in
     tag-put _ _ _ _ e (b .put-row .ensures)
 
 pub put-tag-spec : {M : Type 1} → statement M
