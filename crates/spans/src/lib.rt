@@ -24,6 +24,12 @@ pub enum Token {
     SizeModifier(Span),
 }
 
+// What an array's elements are: so many bits, or of a type.
+pub enum Element {
+    Width(Span),
+    Named(Span),
+}
+
 // A choice of tokens.
 pub struct TokenMatch {
     pub at: Match,
@@ -82,7 +88,7 @@ pub enum FieldDesc {
     FixedScalar(Span, Span),
     FixedEnum(Span, Span),
     Reserved(Span),
-    Array(Span, Token, Token),
+    Array(Span, Element, Token),
     Scalar(Span, Span),
     Typedef(Span, Span),
     Group(Span, Span),

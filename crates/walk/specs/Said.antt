@@ -41,14 +41,35 @@ spanName o s = record { offset = o + s .start; len = s .len }
 abbrev pub noName : Name
 noName = record { offset = 0; len = 0 }
 
-abbrev pub tokenName : ℕ → Token → Name
-tokenName o Absent = noName
-tokenName o (Identifier s) = spanName o s
-tokenName o (PayloadIdentifier s) = spanName o s
-tokenName o (BodyIdentifier s) = spanName o s
-tokenName o (Integer s) = noName
-tokenName o (Text s) = noName
-tokenName o (SizeModifier s) = spanName o s
+-- of a token that may be an identifier
+abbrev pub identifierName : ℕ → Token → Name
+identifierName o Absent = noName
+identifierName o (Identifier s) = spanName o s
+identifierName o (PayloadIdentifier s) = noName
+identifierName o (BodyIdentifier s) = noName
+identifierName o (Integer s) = noName
+identifierName o (Text s) = noName
+identifierName o (SizeModifier s) = noName
+
+-- of a token that may name a field, the payload or the body
+abbrev pub fieldName : ℕ → Token → Name
+fieldName o Absent = noName
+fieldName o (Identifier s) = spanName o s
+fieldName o (PayloadIdentifier s) = spanName o s
+fieldName o (BodyIdentifier s) = spanName o s
+fieldName o (Integer s) = noName
+fieldName o (Text s) = noName
+fieldName o (SizeModifier s) = noName
+
+-- of a token that may be a size modifier, with its `+`
+abbrev pub modifierName : ℕ → Token → Name
+modifierName o Absent = noName
+modifierName o (Identifier s) = noName
+modifierName o (PayloadIdentifier s) = noName
+modifierName o (BodyIdentifier s) = noName
+modifierName o (Integer s) = noName
+modifierName o (Text s) = noName
+modifierName o (SizeModifier s) = spanName o s
 
 -- ---- a span, or a token's, lies inside a text of n bytes
 abbrev pub Inside : ℕ → Span → Type 0
@@ -67,6 +88,15 @@ InsideToken n (SizeModifier s) = Inside n s
 unfoldable pub tagWords : ℕ → SourceLocation → SourceLocation → Name → Number → Number → ℕ → List ℕ
 tagWords kind p q id v e inner =
     kind ∷ p .offset ∷ p .line ∷ p .column ∷ q .offset ∷ q .line ∷ q .column ∷ id .offset ∷ id .len ∷ v .value ∷ e .value ∷ inner ∷ []
+
+abbrev pub constraintKind : Token → ℕ
+constraintKind Absent = 1
+constraintKind (Identifier s) = 2
+constraintKind (PayloadIdentifier s) = 1
+constraintKind (BodyIdentifier s) = 1
+constraintKind (Integer s) = 1
+constraintKind (Text s) = 1
+constraintKind (SizeModifier s) = 1
 
 unfoldable pub constraintWords : ℕ → SourceLocation → SourceLocation → Name → Name → Number → List ℕ
 constraintWords kind p q id tag v =

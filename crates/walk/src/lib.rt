@@ -4,12 +4,25 @@ ghost use Prim.Native.Nat.{_+_, _^_, _-_, _≤_, _<_};
 ghost use mathlib.Core.List.{[], _∷_};
 ghost use lib.ListN.{length};
 ghost use Rattle.meaning.specs.Tables.{Table, row};
+ghost use Rattle.grammar.specs.Matching.{Reads};
+ghost use Rattle.walk.specs.Turns.{comma};
 ghost use Rattle.walk.specs.State.{noted, WroteTags, WroteConstraints, PutField};
-ghost use Rattle.walk.specs.Said.{numberAt, noNumber, tokenNumber, noName, spanName, tokenName, Inside, InsideToken, tagWords, constraintWords, fieldWords, declarationWords};
+ghost use Rattle.walk.specs.Said.{numberAt, noNumber, tokenNumber, noName, spanName, identifierName, fieldName, modifierName, Inside, InsideToken, tagWords, constraintKind, constraintWords, fieldWords, declarationWords};
 use meaning::Converted;
+use lexis::blanks::then_blanks;
+use lexis::texts::then_literal;
+use meaning::Match;
 use meaning::SourceLocation;
 use spans::Span;
 use spans::Token;
+
+// A comma with the blanks around it.
+pub fn comma(s: &[u8]) -> Match
+    ensures { λ r. ⌜ Reads comma (now (s .entry)) r ⌝ }
+{
+    let start = Match::Took(0, 0);
+    then_blanks(s, then_literal(s, then_blanks(s, start), b","))
+}
 
 // How many rows each table has, and the first integer that did not convert: its place and its reason, 0 where all did.
 pub struct Walk {
@@ -104,17 +117,49 @@ pub fn no_name() -> Name
     Name { offset: 0, len: 0 }
 }
 
-// The name that a token of the text at `at` is, if it is one.
-pub fn token_name(at: usize, n: usize, token: Token) -> Name
+// The name of a token that may be an identifier, in a text of n bytes at `at`.
+pub fn identifier_name(at: usize, n: usize, token: Token) -> Name
     requires { ⌜ (at + n < 2 ^ 64) × InsideToken n token ⌝ }
-    ensures { λ r. ⌜ r ≡ tokenName at token ⌝ }
+    ensures { λ r. ⌜ r ≡ identifierName at token ⌝ }
+{
+    match token {
+        Token::Identifier(x) => span_name(at, x),
+        Token::Absent => no_name(),
+        Token::PayloadIdentifier(_) => no_name(),
+        Token::BodyIdentifier(_) => no_name(),
+        Token::Integer(_) => no_name(),
+        Token::Text(_) => no_name(),
+        Token::SizeModifier(_) => no_name(),
+    }
+}
+
+// The name of a token that may name a field, the payload or the body.
+pub fn field_name(at: usize, n: usize, token: Token) -> Name
+    requires { ⌜ (at + n < 2 ^ 64) × InsideToken n token ⌝ }
+    ensures { λ r. ⌜ r ≡ fieldName at token ⌝ }
 {
     match token {
         Token::Identifier(x) => span_name(at, x),
         Token::PayloadIdentifier(x) => span_name(at, x),
         Token::BodyIdentifier(x) => span_name(at, x),
+        Token::Absent => no_name(),
+        Token::Integer(_) => no_name(),
+        Token::Text(_) => no_name(),
+        Token::SizeModifier(_) => no_name(),
+    }
+}
+
+// The name of a token that may be a size modifier.
+pub fn modifier_name(at: usize, n: usize, token: Token) -> Name
+    requires { ⌜ (at + n < 2 ^ 64) × InsideToken n token ⌝ }
+    ensures { λ r. ⌜ r ≡ modifierName at token ⌝ }
+{
+    match token {
         Token::SizeModifier(x) => span_name(at, x),
         Token::Absent => no_name(),
+        Token::Identifier(_) => no_name(),
+        Token::PayloadIdentifier(_) => no_name(),
+        Token::BodyIdentifier(_) => no_name(),
         Token::Integer(_) => no_name(),
         Token::Text(_) => no_name(),
     }
@@ -263,5 +308,20 @@ pub fn put_field(n: Walk, field: [u64; 20], f: &mut [u64]) -> Walk
         constraints: n.constraints,
         place: n.place,
         reason: n.reason,
+    }
+}
+
+// The kind of a constraint: 2 for a tag, 1 for an integer.
+pub fn constraint_kind(value: Token) -> u64
+    ensures { λ r. ⌜ r ≡ constraintKind value ⌝ }
+{
+    match value {
+        Token::Identifier(_) => 2,
+        Token::Absent => 1,
+        Token::PayloadIdentifier(_) => 1,
+        Token::BodyIdentifier(_) => 1,
+        Token::Integer(_) => 1,
+        Token::Text(_) => 1,
+        Token::SizeModifier(_) => 1,
     }
 }

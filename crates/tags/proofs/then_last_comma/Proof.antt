@@ -1,0 +1,13 @@
+use borrow.Author.Needs.{needs}
+use Rattle.grammar.specs.Steps.{link, option}
+use Rattle.tags.proofs.then_last_comma.Statement.{statement}
+use Rattle.tags.proofs.then_last_comma.Tie as tie
+
+returns : tie.Need-returns
+returns c =
+    let b = c .before .before .before .then-blanks .ensures in
+    link b (option (b .fits) (c .before .then-literal .ensures) (c .settle .ensures .is))
+
+pub then-last-comma-spec : {M : Type 1} → statement M
+then-last-comma-spec =
+    tie.close (tie.spec (λ c κs. search needs) (λ c. search needs) (λ c κs. search needs) (λ c κs. search needs) returns)

@@ -1,0 +1,246 @@
+// Tags of an enum: `id = value`, `id = start .. end` with values in braces or none, and `id = ..`; alone and in lists.
+ghost use Rattle.meaning.specs.Rules.{Rule};
+ghost use Rattle.meaning.specs.Peg.{seq, star, opt, taken};
+ghost use Rattle.meaning.specs.Forest.{nil, tree};
+ghost use Rattle.meaning.specs.Pdl.{text, _~_, skip, enum-value, enum-value-list, enum-range, enum-other, enum-tag, enum-tag-list};
+ghost use Rattle.grammar.specs.Matching.{Within, Reads, Steps};
+ghost use Rattle.grammar.specs.Drawing.{Draws, Follows};
+ghost use Rattle.spans.specs.Drawn.{listAt, drawTag};
+use grammar::joined;
+use grammar::settle;
+use lexis::blanks::next_literal;
+use lexis::blanks::then_blanks;
+use lexis::texts::then_literal;
+use lexis::tokens::then_identifier;
+use lexis::tokens::then_integer;
+use meaning::Match;
+use spans::Span;
+use spans::Tag;
+use spans::TagMatch;
+use spans::TagOther;
+use spans::TagRange;
+use spans::TagValue;
+use spans::between;
+use spans::kept_span;
+
+// A name and its value.
+pub fn enum_value(s: &[u8]) -> TagMatch
+    ensures { λ r. ⌜ Draws enum-value (now (s .entry)) (r .at) (λ o. drawTag o (now (s .entry)) (taken (r .at)) (r .tag)) ⌝ }
+{
+    let first = Match::Took(0, 0);
+    let a = then_identifier(s, first);
+    let b = then_blanks(s, next_literal(s, a, b"="));
+    let at = then_integer(s, b);
+    TagMatch {
+        at,
+        tag: Tag::Value(TagValue {
+            id: between(first, a),
+            value: between(b, at),
+        }),
+    }
+}
+
+// A name and its value, where m ends.
+pub fn then_enum_value(s: &[u8], m: Match) -> Match
+    requires { ⌜ Within m (now s) ⌝ }
+    ensures { λ r. ⌜ Steps m enum-value (now (s .entry)) r ⌝ }
+{
+    match m {
+        Match::Missed(f) => Match::Missed(f),
+        Match::Took(n, f) => {
+            let v = enum_value(&s[n..]);
+            let at = v.at;
+            joined(s, n, f, at)
+        }
+    }
+}
+
+// A last comma or none, after a blank run, where m ends: so ends every list but one of constraints.
+pub fn then_last_comma(s: &[u8], m: Match) -> Match
+    requires { ⌜ Within m (now s) ⌝ }
+    ensures { λ r. ⌜ Steps m (seq skip (opt (text ","))) (now (s .entry)) r ⌝ }
+{
+    let b = then_blanks(s, m);
+    settle(s, b, then_literal(s, b, b","))
+}
+
+// A comma and a value, where m ends.
+fn then_comma_value(s: &[u8], m: Match) -> Match
+    requires { ⌜ Within m (now s) ⌝ }
+    ensures { λ r. ⌜ Steps m (text "," ~ enum-value) (now (s .entry)) r ⌝ }
+{
+    then_enum_value(s, then_blanks(s, then_literal(s, m, b",")))
+}
+
+// As many commas and values as follow m.
+fn then_comma_values(s: &[u8], m: Match) -> Match
+    requires { ⌜ Within m (now s) ⌝ }
+    ensures { λ r. ⌜ Steps m (star (seq skip (text "," ~ enum-value))) (now (s .entry)) r ⌝ }
+{
+    let mut at = m;
+    loop {
+        let next = then_comma_value(s, then_blanks(s, at));
+        match next {
+            Match::Missed(_) => return settle(s, at, next),
+            Match::Took(_, _) => at = next,
+        }
+    }
+}
+
+// A list of values, where m ends.
+pub fn then_enum_value_list(s: &[u8], m: Match) -> Match
+    requires { ⌜ Within m (now s) ⌝ }
+    ensures { λ r. ⌜ Steps m enum-value-list (now (s .entry)) r ⌝ }
+{
+    let b = then_blanks(s, then_enum_value(s, m));
+    let all = settle(s, b, then_comma_values(s, then_comma_value(s, b)));
+    then_last_comma(s, all)
+}
+
+// A list of values at the front.
+pub fn enum_value_list(s: &[u8]) -> Match
+    ensures { λ r. ⌜ Reads enum-value-list (now (s .entry)) r ⌝ }
+{
+    then_enum_value_list(s, Match::Took(0, 0))
+}
+
+// The values in braces behind a range, as one part: where it ends, and its list's place, of length 0 where there is none.
+struct Braces {
+    at: Match,
+    tags: Span,
+}
+
+// Values in braces, or nothing, where m ends.
+fn then_braces(s: &[u8], m: Match) -> Braces
+    requires { ⌜ Within m (now s) ⌝ }
+    ensures { λ r. ⌜ Follows m (opt (text "{" ~ enum-value-list ~ text "}")) (now (s .entry)) (r .at) (λ o. listAt enum-value-list o (now (s .entry)) (r .tags)) ⌝ }
+{
+    let a = then_blanks(s, then_literal(s, m, b"{"));
+    let list = then_enum_value_list(s, a);
+    let x = next_literal(s, list, b"}");
+    let tags = kept_span(x, between(a, list));
+    Braces {
+        at: settle(s, m, x),
+        tags,
+    }
+}
+
+// A name, its first and last value, and values in braces; without these the range ends after the blanks.
+pub fn enum_range(s: &[u8]) -> TagMatch
+    ensures { λ r. ⌜ Draws enum-range (now (s .entry)) (r .at) (λ o. drawTag o (now (s .entry)) (taken (r .at)) (r .tag)) ⌝ }
+{
+    let first = Match::Took(0, 0);
+    let a = then_identifier(s, first);
+    let b = then_blanks(s, next_literal(s, a, b"="));
+    let low = then_integer(s, b);
+    let c = then_blanks(s, next_literal(s, low, b".."));
+    let high = then_integer(s, c);
+    let inner = then_braces(s, then_blanks(s, high));
+    let at = inner.at;
+    let tags = inner.tags;
+    TagMatch {
+        at,
+        tag: Tag::Range(TagRange {
+            id: between(first, a),
+            start: between(b, low),
+            end: between(c, high),
+            tags,
+        }),
+    }
+}
+
+// A name for all other values.
+pub fn enum_other(s: &[u8]) -> TagMatch
+    ensures { λ r. ⌜ Draws enum-other (now (s .entry)) (r .at) (λ o. drawTag o (now (s .entry)) (taken (r .at)) (r .tag)) ⌝ }
+{
+    let first = Match::Took(0, 0);
+    let a = then_identifier(s, first);
+    let b = next_literal(s, a, b"=");
+    let at = next_literal(s, b, b"..");
+    TagMatch {
+        at,
+        tag: Tag::Other(TagOther {
+            id: between(first, a),
+        }),
+    }
+}
+
+// A tag: a range, else a value, else the name for all others, each tried from the start.
+pub fn enum_tag(s: &[u8]) -> TagMatch
+    ensures { λ r. ⌜ Draws enum-tag (now (s .entry)) (r .at) (λ o. tree Rule.enum-tag o (taken (r .at)) (drawTag o (now (s .entry)) (taken (r .at)) (r .tag)) nil) ⌝ }
+{
+    let range = enum_range(s);
+    let x = range.at;
+    let Match::Missed(f) = x else {
+        return range;
+    };
+    let value = enum_value(s);
+    let y = value.at;
+    let at = joined(s, 0, f, y);
+    let tag = value.tag;
+    let Match::Missed(g) = at else {
+        return TagMatch { at, tag };
+    };
+    let other = enum_other(s);
+    let z = other.at;
+    let tag = other.tag;
+    TagMatch {
+        at: joined(s, 0, g, z),
+        tag,
+    }
+}
+
+// A tag, where m ends.
+pub fn then_enum_tag(s: &[u8], m: Match) -> Match
+    requires { ⌜ Within m (now s) ⌝ }
+    ensures { λ r. ⌜ Steps m enum-tag (now (s .entry)) r ⌝ }
+{
+    match m {
+        Match::Missed(f) => Match::Missed(f),
+        Match::Took(n, f) => {
+            let v = enum_tag(&s[n..]);
+            let at = v.at;
+            joined(s, n, f, at)
+        }
+    }
+}
+
+// A comma and a tag, where m ends.
+fn then_comma_tag(s: &[u8], m: Match) -> Match
+    requires { ⌜ Within m (now s) ⌝ }
+    ensures { λ r. ⌜ Steps m (text "," ~ enum-tag) (now (s .entry)) r ⌝ }
+{
+    then_enum_tag(s, then_blanks(s, then_literal(s, m, b",")))
+}
+
+// As many commas and tags as follow m.
+fn then_comma_tags(s: &[u8], m: Match) -> Match
+    requires { ⌜ Within m (now s) ⌝ }
+    ensures { λ r. ⌜ Steps m (star (seq skip (text "," ~ enum-tag))) (now (s .entry)) r ⌝ }
+{
+    let mut at = m;
+    loop {
+        let next = then_comma_tag(s, then_blanks(s, at));
+        match next {
+            Match::Missed(_) => return settle(s, at, next),
+            Match::Took(_, _) => at = next,
+        }
+    }
+}
+
+// A list of tags, where m ends.
+pub fn then_enum_tag_list(s: &[u8], m: Match) -> Match
+    requires { ⌜ Within m (now s) ⌝ }
+    ensures { λ r. ⌜ Steps m enum-tag-list (now (s .entry)) r ⌝ }
+{
+    let b = then_blanks(s, then_enum_tag(s, m));
+    let all = settle(s, b, then_comma_tags(s, then_comma_tag(s, b)));
+    then_last_comma(s, all)
+}
+
+// A list of tags at the front.
+pub fn enum_tag_list(s: &[u8]) -> Match
+    ensures { λ r. ⌜ Reads enum-tag-list (now (s .entry)) r ⌝ }
+{
+    then_enum_tag_list(s, Match::Took(0, 0))
+}
