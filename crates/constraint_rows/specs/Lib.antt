@@ -1,1 +1,3 @@
 pub mod Constraints
+pub mod Lists
+pub mod ListLaws

@@ -5,3 +5,6 @@ pub mod Said
 pub mod DrawnItems
 pub mod Ready
 pub mod Turns
+pub mod Insides
+pub mod Nexts
+pub mod SaidLaws

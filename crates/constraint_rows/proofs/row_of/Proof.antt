@@ -12,14 +12,14 @@ move-to-requires : tie.Need-move-to-requires
 move-to-requires c κs = 
     let b = c .before .before .before in
     let h = b .pre in
-    ready (now (b .args .s)) (b .args .at) (b .args .at + b .args .c .span .start) (b .args .p) (h .here) (omega arith) (omega (arith, h .span, h .within))
+    ready (now (b .args .s)) (b .args .at) (b .args .at + b .args .c .span .start) (b .args .p) (h .here) (omega arith) (omega (arith, h .inside .span, h .within))
 
 move-to-requires-2 : tie.Need-move-to-requires-2
 move-to-requires-2 c κs =
     let b = c .before .before .before .before .before in
     let h = b .pre in
     ready (now (b .args .s)) (b .args .at + b .args .c .span .start) (b .args .at + b .args .c .span .start + b .args .c .span .len) (c .before .move-to .result)
-    (c .before .move-to .ensures) (omega arith) (omega (arith, h .span, h .within))
+    (c .before .move-to .ensures) (omega arith) (omega (arith, h .inside .span, h .within))
 
 returns : tie.Need-returns
 unfolding rowWords

@@ -1,0 +1,142 @@
+// The comments of a source, by one pass over its bytes in linear time. A string is passed as a whole: what looks like a
+// comment inside it is none.
+ghost use mathlib.Core.Path.{_≡_};
+ghost use Prim.Native.Nat.{_<_};
+ghost use lib.Dec.{eqb};
+ghost use lib.ListN.{length};
+ghost use Rattle.meaning.specs.Choice.{both};
+ghost use Rattle.comments.specs.Lex.{comment-count, left, written};
+ghost use Rattle.comments.specs.Steps.{Closed, Comment, Past, kind-of, words};
+use ast::put_row;
+use grammar::taken;
+use lexis::blanks::comment;
+use lexis::blanks::line_comment;
+use lexis::texts::literal;
+use lexis::tokens::string;
+use meaning::Match;
+use meaning::SourceLocation;
+use text::move_to;
+
+// Whether the two bytes close a block comment.
+fn closes(a: u8, b: u8) -> bool
+    ensures { λ r. ⌜ r ≡ both (eqb 42 a) (eqb 47 b) ⌝ }
+{
+    if b'*' == a { b'/' == b } else { false }
+}
+
+// An offset from which on no `*/` starts, just past the last one: unclosed comments are told by it, and not each followed to
+// the end of the source.
+fn last_close(s: &[u8]) -> usize
+    ensures { λ r. ⌜ Closed (now (s .entry)) r ⌝ }
+{
+    let mut i = s.len();
+    while 1 < i {
+        let found = closes(s[i - 2], s[i - 1]);
+        if found {
+            return i - 1;
+        }
+        i -= 1;
+    }
+    0
+}
+
+// How long the comment at `at` is; 0, if there is none. From `close` on no `*/` starts.
+fn comment_at(s: &[u8], at: usize, close: usize) -> usize
+    requires { ⌜ (at < length (now s)) × Closed (now s) close ⌝ }
+    ensures { λ r. ⌜ Comment (now (s .entry)) at r ⌝ }
+{
+    if s[at] != b'/' {
+        return 0;
+    }
+    if close <= at {
+        return taken(line_comment(&s[at..]));
+    }
+    taken(comment(&s[at..]))
+}
+
+// How far the pass goes at `at`, where there is no comment: over a string, or over one byte.
+fn past_at(s: &[u8], at: usize) -> usize
+    requires { ⌜ at < length (now s) ⌝ }
+    ensures { λ r. ⌜ Past (now (s .entry)) at r ⌝ }
+{
+    if s[at] != b'"' {
+        return 1;
+    }
+    let n = taken(string(&s[at..]));
+    if n == 0 {
+        return 1;
+    }
+    n
+}
+
+// The number of comments.
+pub fn count_comments(s: &[u8]) -> usize
+    ensures { λ r. ⌜ r ≡ comment-count (now (s .entry)) ⌝ }
+{
+    let mut k: usize = 0;
+    let mut i: usize = 0;
+    let close = last_close(s);
+    while i < s.len() {
+        let n = comment_at(s, i, close);
+        if n == 0 {
+            i += past_at(s, i);
+        } else {
+            k += 1;
+            i += n;
+        }
+    }
+    k
+}
+
+// A comment's kind: block 1, line 2.
+fn kind_at(s: &[u8], at: usize) -> u64
+    requires { ⌜ at < length (now s) ⌝ }
+    ensures { λ r. ⌜ r ≡ kind-of (now (s .entry)) at ⌝ }
+{
+    match literal(&s[at..], b"/*") {
+        Match::Took(_, _) => 1,
+        Match::Missed(_) => 2,
+    }
+}
+
+// A comment's row: its kind, and the places of its start and its end.
+fn comment_row(kind: u64, p: SourceLocation, q: SourceLocation) -> [u64; 7]
+    ensures { λ r. ⌜ r ≡ words kind p q ⌝ }
+{
+    [
+        kind,
+        p.offset as u64,
+        p.line as u64,
+        p.column as u64,
+        q.offset as u64,
+        q.line as u64,
+        q.column as u64,
+    ]
+}
+
+// A row for each comment, as far as the table holds rows; the answer is the number of comments.
+pub fn write_comments(s: &[u8], t: &mut [u64]) -> usize
+    ensures { λ r. ⌜ left r (now (t .exit)) ≡ written (now (s .entry)) (now (t .entry)) ⌝ }
+{
+    let mut k: usize = 0;
+    let mut i: usize = 0;
+    let mut p = SourceLocation {
+        offset: 0,
+        line: 0,
+        column: 0,
+    };
+    let close = last_close(s);
+    while i < s.len() {
+        let n = comment_at(s, i, close);
+        if n == 0 {
+            i += past_at(s, i);
+        } else {
+            let q = move_to(s, p, i);
+            p = move_to(s, q, i + n);
+            put_row(t, k, &comment_row(kind_at(s, i), q, p));
+            k += 1;
+            i += n;
+        }
+    }
+    k
+}

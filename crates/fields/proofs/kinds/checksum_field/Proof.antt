@@ -1,0 +1,15 @@
+use borrow.Author.Needs.{needs}
+use Rattle.grammar.specs.Drawing.{whole, noted}
+use Rattle.meaning.specs.Rules.{Rule}
+use mathlib.Core.Path.{refl}
+use Rattle.meaning.specs.Pdl.{checksum-field}
+use Rattle.fields.proofs.kinds.checksum_field.Statement.{statement}
+use Rattle.fields.proofs.kinds.checksum_field.Tie as tie
+
+returns : tie.Need-returns
+unfolding checksum-field
+returns c = noted Rule.checksum-field refl (whole (c .before .then-labelled .ensures))
+
+pub checksum-field-spec : {M : Type 1} → statement M
+checksum-field-spec =
+    tie.close (tie.spec (λ c. search needs) (λ c κs. search needs) returns)

@@ -1,0 +1,14 @@
+use borrow.Author.Needs.{needs}
+use Rattle.grammar.specs.Drawing.{noted}
+use Rattle.meaning.specs.Rules.{Rule}
+use mathlib.Core.Path.{refl}
+use Rattle.meaning.specs.Pdl.{elementsize-field}
+use Rattle.fields.proofs.kinds.elementsize_field.Statement.{statement}
+use Rattle.fields.proofs.kinds.elementsize_field.Tie as tie
+
+returns : tie.Need-returns
+unfolding elementsize-field
+returns c = noted Rule.elementsize-field refl (c .before .before .counted .ensures)
+
+pub elementsize-field-spec : {M : Type 1} → statement M
+elementsize-field-spec = tie.close (tie.spec (λ c. search needs) (λ c κs. search needs) returns)

@@ -1,0 +1,14 @@
+use borrow.Author.Needs.{needs}
+use Rattle.grammar.specs.Drawing.{whole, noted}
+use Rattle.meaning.specs.Rules.{Rule}
+use mathlib.Core.Path.{refl}
+use Rattle.meaning.specs.Pdl.{typedef-field}
+use Rattle.fields.proofs.kinds.typedef_field.Statement.{statement}
+use Rattle.fields.proofs.kinds.typedef_field.Tie as tie
+
+returns : tie.Need-returns
+unfolding typedef-field
+returns c = noted Rule.typedef-field refl (whole (c .before .before .then-names .ensures))
+
+pub typedef-field-spec : {M : Type 1} → statement M
+typedef-field-spec = tie.close (tie.spec (λ c κs. search needs) returns)

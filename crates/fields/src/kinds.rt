@@ -1,0 +1,236 @@
+// The thirteen kinds of a field's description, each by its rule.
+ghost use Rattle.meaning.specs.Peg.{taken};
+ghost use Rattle.meaning.specs.Pdl.{checksum-field, padding-field, size-field, count-field, elementsize-field, body-field, payload-field, fixed-field, reserved-field, array-field, scalar-field, typedef-field, group-field};
+ghost use Rattle.grammar.specs.Drawing.{Draws};
+ghost use Rattle.spans.specs.Drawn.{drawDesc};
+use constraints::then_constraint_list;
+use grammar::settle;
+use lexis::blanks::next_literal;
+use lexis::blanks::then_blanks;
+use lexis::texts::literal;
+use lexis::texts::then_literal;
+use lexis::tokens::then_identifier;
+use lexis::tokens::then_size_modifier;
+use meaning::Match;
+use crate::parts::TokenKind;
+use crate::parts::counted;
+use crate::parts::next_number;
+use crate::parts::or_token;
+use crate::parts::then_labelled;
+use crate::parts::then_names;
+use crate::parts::then_numbers;
+use crate::parts::then_token;
+use spans::DescMatch;
+use spans::FieldDesc;
+use spans::Token;
+use spans::between;
+use spans::kept_span;
+use spans::kept_token;
+
+// `_checksum_start_(id)`
+pub fn checksum_field(s: &[u8]) -> DescMatch
+    ensures { λ r. ⌜ Draws checksum-field (now (s .entry)) (r .at) (λ o. drawDesc o (now (s .entry)) (taken (r .at)) (r .desc)) ⌝ }
+{
+    let id = then_labelled(s, Match::Took(0, 0), b"_checksum_start_");
+    let at = id.at;
+    let span = id.span;
+    DescMatch {
+        at,
+        desc: FieldDesc::Checksum(span),
+    }
+}
+
+// `_padding_[size]`
+pub fn padding_field(s: &[u8]) -> DescMatch
+    ensures { λ r. ⌜ Draws padding-field (now (s .entry)) (r .at) (λ o. drawDesc o (now (s .entry)) (taken (r .at)) (r .desc)) ⌝ }
+{
+    let size = next_number(s, next_literal(s, literal(s, b"_padding_"), b"["));
+    let a = size.at;
+    let span = size.span;
+    DescMatch {
+        at: next_literal(s, a, b"]"),
+        desc: FieldDesc::Padding(span),
+    }
+}
+
+// `_size_(id): width`, where the id may be the payload or the body
+pub fn size_field(s: &[u8]) -> DescMatch
+    ensures { λ r. ⌜ Draws size-field (now (s .entry)) (r .at) (λ o. drawDesc o (now (s .entry)) (taken (r .at)) (r .desc)) ⌝ }
+{
+    let b = then_blanks(s, next_literal(s, literal(s, b"_size_"), b"("));
+    let name = then_token(s, b, TokenKind::Identifier);
+    let special = or_token(s, b, name, TokenKind::PayloadIdentifier);
+    let id = or_token(s, b, special, TokenKind::BodyIdentifier);
+    let a = id.at;
+    let token = id.token;
+    let width = next_number(s, next_literal(s, next_literal(s, a, b")"), b":"));
+    let at = width.at;
+    let span = width.span;
+    DescMatch {
+        at,
+        desc: FieldDesc::Size(token, span),
+    }
+}
+
+// `_count_(id): width`
+pub fn count_field(s: &[u8]) -> DescMatch
+    ensures { λ r. ⌜ Draws count-field (now (s .entry)) (r .at) (λ o. drawDesc o (now (s .entry)) (taken (r .at)) (r .desc)) ⌝ }
+{
+    let p = counted(s, b"_count_");
+    let at = p.at;
+    let id = p.first;
+    let width = p.second;
+    DescMatch {
+        at,
+        desc: FieldDesc::Count(id, width),
+    }
+}
+
+// `_elementsize_(id): width`
+pub fn elementsize_field(s: &[u8]) -> DescMatch
+    ensures { λ r. ⌜ Draws elementsize-field (now (s .entry)) (r .at) (λ o. drawDesc o (now (s .entry)) (taken (r .at)) (r .desc)) ⌝ }
+{
+    let p = counted(s, b"_elementsize_");
+    let at = p.at;
+    let id = p.first;
+    let width = p.second;
+    DescMatch {
+        at,
+        desc: FieldDesc::ElementSize(id, width),
+    }
+}
+
+// `_body_`
+pub fn body_field(s: &[u8]) -> DescMatch
+    ensures { λ r. ⌜ Draws body-field (now (s .entry)) (r .at) (λ o. drawDesc o (now (s .entry)) (taken (r .at)) (r .desc)) ⌝ }
+{
+    DescMatch {
+        at: literal(s, b"_body_"),
+        desc: FieldDesc::Body,
+    }
+}
+
+// `_payload_`, or `_payload_: [+n]`
+pub fn payload_field(s: &[u8]) -> DescMatch
+    ensures { λ r. ⌜ Draws payload-field (now (s .entry)) (r .at) (λ o. drawDesc o (now (s .entry)) (taken (r .at)) (r .desc)) ⌝ }
+{
+    let b = then_blanks(s, literal(s, b"_payload_"));
+    let c = then_blanks(s, next_literal(s, then_literal(s, b, b":"), b"["));
+    let d = then_size_modifier(s, c);
+    let x = next_literal(s, d, b"]");
+    let at = settle(s, b, x);
+    DescMatch {
+        at,
+        desc: FieldDesc::Payload(kept_token(x, Token::SizeModifier(between(c, d)))),
+    }
+}
+
+// `_fixed_ = value: width`, or `_fixed_ = tag: enum`
+pub fn fixed_field(s: &[u8]) -> DescMatch
+    ensures { λ r. ⌜ Draws fixed-field (now (s .entry)) (r .at) (λ o. drawDesc o (now (s .entry)) (taken (r .at)) (r .desc)) ⌝ }
+{
+    let b = then_blanks(s, next_literal(s, literal(s, b"_fixed_"), b"="));
+    let x = then_numbers(s, b);
+    let at = x.at;
+    if let Match::Took(_, _) = at {
+        let value = x.first;
+        let width = x.second;
+        return DescMatch {
+            at,
+            desc: FieldDesc::FixedScalar(value, width),
+        };
+    }
+    let y = then_names(s, settle(s, b, at));
+    let end = y.at;
+    let tag = y.first;
+    let name = y.second;
+    DescMatch {
+        at: end,
+        desc: FieldDesc::FixedEnum(tag, name),
+    }
+}
+
+// `_reserved_: width`
+pub fn reserved_field(s: &[u8]) -> DescMatch
+    ensures { λ r. ⌜ Draws reserved-field (now (s .entry)) (r .at) (λ o. drawDesc o (now (s .entry)) (taken (r .at)) (r .desc)) ⌝ }
+{
+    let width = next_number(s, next_literal(s, literal(s, b"_reserved_"), b":"));
+    let at = width.at;
+    let span = width.span;
+    DescMatch {
+        at,
+        desc: FieldDesc::Reserved(span),
+    }
+}
+
+// `id: width[size]`, or `id: type[size]`; the size may be a modifier, or missing
+pub fn array_field(s: &[u8]) -> DescMatch
+    ensures { λ r. ⌜ Draws array-field (now (s .entry)) (r .at) (λ o. drawDesc o (now (s .entry)) (taken (r .at)) (r .desc)) ⌝ }
+{
+    let start = Match::Took(0, 0);
+    let a = then_identifier(s, start);
+    let b = then_blanks(s, next_literal(s, a, b":"));
+    let number = then_token(s, b, TokenKind::Integer);
+    let element = or_token(s, b, number, TokenKind::Identifier);
+    let c = element.at;
+    let element_type = element.token;
+    let d = then_blanks(s, next_literal(s, c, b"["));
+    let modifier = then_token(s, d, TokenKind::SizeModifier);
+    let size = or_token(s, d, modifier, TokenKind::Integer);
+    let x = size.at;
+    let token = size.token;
+    let at = next_literal(s, settle(s, d, x), b"]");
+    let id = between(start, a);
+    let kept = kept_token(x, token);
+    DescMatch {
+        at,
+        desc: FieldDesc::Array(id, element_type, kept),
+    }
+}
+
+// `id: width`
+pub fn scalar_field(s: &[u8]) -> DescMatch
+    ensures { λ r. ⌜ Draws scalar-field (now (s .entry)) (r .at) (λ o. drawDesc o (now (s .entry)) (taken (r .at)) (r .desc)) ⌝ }
+{
+    let start = Match::Took(0, 0);
+    let a = then_identifier(s, start);
+    let width = next_number(s, next_literal(s, a, b":"));
+    let at = width.at;
+    let span = width.span;
+    DescMatch {
+        at,
+        desc: FieldDesc::Scalar(between(start, a), span),
+    }
+}
+
+// `id: type`
+pub fn typedef_field(s: &[u8]) -> DescMatch
+    ensures { λ r. ⌜ Draws typedef-field (now (s .entry)) (r .at) (λ o. drawDesc o (now (s .entry)) (taken (r .at)) (r .desc)) ⌝ }
+{
+    let p = then_names(s, Match::Took(0, 0));
+    let at = p.at;
+    let id = p.first;
+    let name = p.second;
+    DescMatch {
+        at,
+        desc: FieldDesc::Typedef(id, name),
+    }
+}
+
+// `id`, or `id {constraints}`, where the list may be missing
+pub fn group_field(s: &[u8]) -> DescMatch
+    ensures { λ r. ⌜ Draws group-field (now (s .entry)) (r .at) (λ o. drawDesc o (now (s .entry)) (taken (r .at)) (r .desc)) ⌝ }
+{
+    let start = Match::Took(0, 0);
+    let a = then_identifier(s, start);
+    let b = then_blanks(s, a);
+    let c = then_blanks(s, then_literal(s, b, b"{"));
+    let list = then_constraint_list(s, c);
+    let x = next_literal(s, settle(s, c, list), b"}");
+    let at = settle(s, b, x);
+    let span = kept_span(list, between(c, list));
+    DescMatch {
+        at,
+        desc: FieldDesc::Group(between(start, a), kept_span(x, span)),
+    }
+}

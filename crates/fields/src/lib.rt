@@ -1,0 +1,217 @@
+// Fields: a field's description with its condition, and lists of fields.
+pub mod kinds;
+pub mod parts;
+ghost use mathlib.Core.Path.{_≡_};
+ghost use Rattle.meaning.specs.Choice.{pick};
+ghost use Rattle.meaning.specs.Peg.{seq, star, hit, taken};
+ghost use Rattle.meaning.specs.Pdl.{text, _~_, skip, field-desc, field, field-list};
+ghost use Rattle.grammar.specs.Matching.{Within, Reads, Steps};
+ghost use Rattle.grammar.specs.Drawing.{Draws};
+ghost use Rattle.spans.specs.Drawn.{drawDesc, drawField};
+ghost use Rattle.fields.specs.Kinds.{word-fields, fieldOf, OrDesc};
+ghost use Rattle.fields.specs.Kept.{absentConstraint};
+use constraints::then_constraint;
+use grammar::joined;
+use grammar::settle;
+use crate::kinds::array_field;
+use crate::kinds::body_field;
+use crate::kinds::checksum_field;
+use crate::kinds::count_field;
+use crate::kinds::elementsize_field;
+use crate::kinds::fixed_field;
+use crate::kinds::group_field;
+use crate::kinds::padding_field;
+use crate::kinds::payload_field;
+use crate::kinds::reserved_field;
+use crate::kinds::scalar_field;
+use crate::kinds::size_field;
+use crate::kinds::typedef_field;
+use lexis::blanks::then_blanks;
+use lexis::texts::literal;
+use lexis::texts::then_literal;
+use meaning::Match;
+use spans::Constraint;
+use spans::DescMatch;
+use spans::FieldDesc;
+use spans::FieldMatch;
+use spans::Token;
+use spans::nowhere;
+
+// The rules of a description, in the order of the choice.
+pub enum FieldKind {
+    Checksum,
+    Padding,
+    Size,
+    Count,
+    ElementSize,
+    Body,
+    Payload,
+    Fixed,
+    Reserved,
+    Array,
+    Scalar,
+    Typedef,
+    Group,
+}
+
+// A description by its rule.
+fn of_kind(s: &[u8], kind: FieldKind) -> DescMatch
+    ensures { λ r. ⌜ Draws (fieldOf kind) (now (s .entry)) (r .at) (λ o. drawDesc o (now (s .entry)) (taken (r .at)) (r .desc)) ⌝ }
+{
+    match kind {
+        FieldKind::Checksum => checksum_field(s),
+        FieldKind::Padding => padding_field(s),
+        FieldKind::Size => size_field(s),
+        FieldKind::Count => count_field(s),
+        FieldKind::ElementSize => elementsize_field(s),
+        FieldKind::Body => body_field(s),
+        FieldKind::Payload => payload_field(s),
+        FieldKind::Fixed => fixed_field(s),
+        FieldKind::Reserved => reserved_field(s),
+        FieldKind::Array => array_field(s),
+        FieldKind::Scalar => scalar_field(s),
+        FieldKind::Typedef => typedef_field(s),
+        FieldKind::Group => group_field(s),
+    }
+}
+
+// d, or, where it missed, the rule tried with the mark of d.
+fn or_kind(s: &[u8], d: DescMatch, kind: FieldKind) -> DescMatch
+    ensures { λ r. ⌜ OrDesc d (fieldOf kind) (now (s .entry)) r ⌝ }
+{
+    let before = d.at;
+    match before {
+        Match::Took(_, _) => d,
+        Match::Missed(f) => {
+            let e = of_kind(s, kind);
+            let at = e.at;
+            let desc = e.desc;
+            DescMatch {
+                at: joined(s, 0, f, at),
+                desc,
+            }
+        }
+    }
+}
+
+// The nine kinds that start with a word in underscores. A text with no underscore in front is none of them.
+fn word_field(s: &[u8]) -> DescMatch
+    ensures { λ r. ⌜ Draws word-fields (now (s .entry)) (r .at) (λ o. drawDesc o (now (s .entry)) (taken (r .at)) (r .desc)) ⌝ }
+{
+    let front = literal(s, b"_");
+    if let Match::Missed(_) = front {
+        return DescMatch {
+            at: Match::Missed(1),
+            desc: FieldDesc::Body,
+        };
+    }
+    let checksum = of_kind(s, FieldKind::Checksum);
+    let padding = or_kind(s, checksum, FieldKind::Padding);
+    let size = or_kind(s, padding, FieldKind::Size);
+    let count = or_kind(s, size, FieldKind::Count);
+    let elementsize = or_kind(s, count, FieldKind::ElementSize);
+    let body = or_kind(s, elementsize, FieldKind::Body);
+    let payload = or_kind(s, body, FieldKind::Payload);
+    let fixed = or_kind(s, payload, FieldKind::Fixed);
+    or_kind(s, fixed, FieldKind::Reserved)
+}
+
+// A field's description.
+pub fn field_desc(s: &[u8]) -> DescMatch
+    ensures { λ r. ⌜ Draws field-desc (now (s .entry)) (r .at) (λ o. drawDesc o (now (s .entry)) (taken (r .at)) (r .desc)) ⌝ }
+{
+    let words = word_field(s);
+    let array = or_kind(s, words, FieldKind::Array);
+    let scalar = or_kind(s, array, FieldKind::Scalar);
+    let typedef = or_kind(s, scalar, FieldKind::Typedef);
+    or_kind(s, typedef, FieldKind::Group)
+}
+
+// The condition c of a field, whose match is x.
+fn kept_constraint(x: Match, c: Constraint) -> Constraint
+    ensures { λ r. ⌜ r ≡ pick (hit x) c absentConstraint ⌝ }
+{
+    let there = grammar::took(x);
+    if there {
+        return c;
+    }
+    Constraint {
+        span: nowhere(),
+        id: nowhere(),
+        value: Token::Absent,
+    }
+}
+
+// A field: its description, and its condition if there is one. Without one it ends after the blanks behind it.
+pub fn field(s: &[u8]) -> FieldMatch
+    ensures { λ r. ⌜ Draws field (now (s .entry)) (r .at) (λ o. drawField o (now (s .entry)) r) ⌝ }
+{
+    let desc = field_desc(s);
+    let a = desc.at;
+    let b = then_blanks(s, a);
+    let c = then_constraint(s, then_blanks(s, then_literal(s, b, b"if")));
+    let x = c.at;
+    let constraint = c.constraint;
+    let at = settle(s, b, x);
+    FieldMatch {
+        at,
+        desc,
+        cond: kept_constraint(x, constraint),
+    }
+}
+
+// A field, where m ends.
+pub fn then_field(s: &[u8], m: Match) -> Match
+    requires { ⌜ Within m (now s) ⌝ }
+    ensures { λ r. ⌜ Steps m field (now (s .entry)) r ⌝ }
+{
+    match m {
+        Match::Missed(f) => Match::Missed(f),
+        Match::Took(n, f) => {
+            let x = field(&s[n..]);
+            let at = x.at;
+            joined(s, n, f, at)
+        }
+    }
+}
+
+// A comma and a field, where m ends.
+fn then_comma(s: &[u8], m: Match) -> Match
+    requires { ⌜ Within m (now s) ⌝ }
+    ensures { λ r. ⌜ Steps m (text "," ~ field) (now (s .entry)) r ⌝ }
+{
+    then_field(s, then_blanks(s, then_literal(s, m, b",")))
+}
+
+// As many commas and fields as follow m.
+fn then_commas(s: &[u8], m: Match) -> Match
+    requires { ⌜ Within m (now s) ⌝ }
+    ensures { λ r. ⌜ Steps m (star (seq skip (text "," ~ field))) (now (s .entry)) r ⌝ }
+{
+    let mut at = m;
+    loop {
+        let next = then_comma(s, then_blanks(s, at));
+        match next {
+            Match::Missed(_) => return settle(s, at, next),
+            Match::Took(_, _) => at = next,
+        }
+    }
+}
+
+// A list of fields, which may have a last comma, where m ends.
+pub fn then_field_list(s: &[u8], m: Match) -> Match
+    requires { ⌜ Within m (now s) ⌝ }
+    ensures { λ r. ⌜ Steps m field-list (now (s .entry)) r ⌝ }
+{
+    let b = then_blanks(s, then_field(s, m));
+    let more = settle(s, b, then_commas(s, then_comma(s, b)));
+    let c = then_blanks(s, more);
+    settle(s, c, then_literal(s, c, b","))
+}
+
+// A list of fields at the front.
+pub fn field_list(s: &[u8]) -> Match
+    ensures { λ r. ⌜ Reads field-list (now (s .entry)) r ⌝ }
+{
+    then_field_list(s, Match::Took(0, 0))
+}
