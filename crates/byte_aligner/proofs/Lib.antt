@@ -1,2 +1,5 @@
 mod Lent
 mod LentOne
+mod Laws
+mod To
+mod ToOne

@@ -19,5 +19,5 @@ abbrev pub finished : Ended → Aligner → Finished
 finished r a = record { answer = r; state = a }
 
 -- the end answers as over a state by value, and leaves the state as it came
-abbrev pub alignAt : Aligner → List ℕ → List ℕ → Finished
-alignAt a ps cs = finished (ended a ps cs) a
+abbrev pub align-at : Aligner → List ℕ → List ℕ → Finished
+align-at a ps cs = finished (ended a ps cs) a

@@ -1,1 +1,4 @@
 pub mod Lent
+pub mod Records
+pub mod Plans
+pub mod SameRecords

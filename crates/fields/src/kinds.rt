@@ -12,14 +12,14 @@ use lexis::texts::then_literal;
 use lexis::tokens::then_identifier;
 use lexis::tokens::then_size_modifier;
 use meaning::Match;
-use crate::parts::TokenKind;
 use crate::parts::counted;
 use crate::parts::next_number;
-use crate::parts::or_token;
+use crate::parts::then_element;
+use crate::parts::then_field_name;
 use crate::parts::then_labelled;
 use crate::parts::then_names;
 use crate::parts::then_numbers;
-use crate::parts::then_token;
+use crate::parts::then_size;
 use spans::DescMatch;
 use spans::FieldDesc;
 use spans::Token;
@@ -58,9 +58,7 @@ pub fn size_field(s: &[u8]) -> DescMatch
     ensures { λ r. ⌜ Draws size-field (now (s .entry)) (r .at) (λ o. drawDesc o (now (s .entry)) (taken (r .at)) (r .desc)) ⌝ }
 {
     let b = then_blanks(s, next_literal(s, literal(s, b"_size_"), b"("));
-    let name = then_token(s, b, TokenKind::Identifier);
-    let special = or_token(s, b, name, TokenKind::PayloadIdentifier);
-    let id = or_token(s, b, special, TokenKind::BodyIdentifier);
+    let id = then_field_name(s, b);
     let a = id.at;
     let token = id.token;
     let width = next_number(s, next_literal(s, next_literal(s, a, b")"), b":"));
@@ -170,13 +168,11 @@ pub fn array_field(s: &[u8]) -> DescMatch
     let start = Match::Took(0, 0);
     let a = then_identifier(s, start);
     let b = then_blanks(s, next_literal(s, a, b":"));
-    let number = then_token(s, b, TokenKind::Integer);
-    let element = or_token(s, b, number, TokenKind::Identifier);
-    let c = element.at;
-    let element_type = element.token;
+    let kind = then_element(s, b);
+    let c = kind.at;
+    let element = kind.element;
     let d = then_blanks(s, next_literal(s, c, b"["));
-    let modifier = then_token(s, d, TokenKind::SizeModifier);
-    let size = or_token(s, d, modifier, TokenKind::Integer);
+    let size = then_size(s, d);
     let x = size.at;
     let token = size.token;
     let at = next_literal(s, settle(s, d, x), b"]");
@@ -184,7 +180,7 @@ pub fn array_field(s: &[u8]) -> DescMatch
     let kept = kept_token(x, token);
     DescMatch {
         at,
-        desc: FieldDesc::Array(id, element_type, kept),
+        desc: FieldDesc::Array(id, element, kept),
     }
 }
 

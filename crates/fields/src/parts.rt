@@ -2,12 +2,11 @@
 // with a colon between them, and choices of tokens.
 ghost use Rattle.meaning.specs.Rules.{Rule};
 ghost use Rattle.meaning.specs.Peg.{seq, lit};
-ghost use Rattle.meaning.specs.Pdl.{text, _~_, skip, identifier, integer};
+ghost use Rattle.meaning.specs.Pdl.{text, _~_, _∣_, skip, identifier, payload-identifier, body-identifier, integer, size-modifier};
 ghost use Rattle.meaning.specs.Forest.{_⊕_};
 ghost use Rattle.grammar.specs.Matching.{Within};
 ghost use Rattle.grammar.specs.Drawing.{Draws, Follows};
-ghost use Rattle.spans.specs.Drawn.{leafAt, drawToken};
-ghost use Rattle.fields.specs.Kinds.{tokenOf, OrToken};
+ghost use Rattle.spans.specs.Drawn.{leafAt, drawToken, onlyName, drawElement};
 use grammar::settle;
 use lexis::blanks::next_literal;
 use lexis::blanks::then_blanks;
@@ -18,6 +17,7 @@ use lexis::tokens::then_integer;
 use lexis::tokens::then_payload_identifier;
 use lexis::tokens::then_size_modifier;
 use meaning::Match;
+use spans::Element;
 use spans::Span;
 use spans::Token;
 use spans::TokenMatch;
@@ -33,15 +33,6 @@ pub struct Pair {
     pub at: Match,
     pub first: Span,
     pub second: Span,
-}
-
-// The rules of the tokens that stand in a choice.
-pub enum TokenKind {
-    Identifier,
-    PayloadIdentifier,
-    BodyIdentifier,
-    Integer,
-    SizeModifier,
 }
 
 // A name after a blank run, where m ends.
@@ -129,58 +120,75 @@ pub fn then_numbers(s: &[u8], m: Match) -> Pair
     }
 }
 
-// A token by its rule, where m ends.
-pub fn then_token(s: &[u8], m: Match, kind: TokenKind) -> TokenMatch
+// The name that a size is of: a field's, the payload's or the body's, where m ends.
+pub fn then_field_name(s: &[u8], m: Match) -> TokenMatch
     requires { ⌜ Within m (now s) ⌝ }
-    ensures { λ r. ⌜ Follows m (tokenOf kind) (now (s .entry)) (r .at) (λ o. drawToken o (r .token)) ⌝ }
+    ensures { λ r. ⌜ Follows m (identifier ∣ payload-identifier ∣ body-identifier) (now (s .entry)) (r .at) (λ o. drawToken o (onlyName (r .token))) ⌝ }
 {
-    match kind {
-        TokenKind::Identifier => {
-            let at = then_identifier(s, m);
-            TokenMatch {
-                at,
-                token: Token::Identifier(between(m, at)),
-            }
-        }
-        TokenKind::PayloadIdentifier => {
-            let at = then_payload_identifier(s, m);
-            TokenMatch {
-                at,
-                token: Token::PayloadIdentifier(between(m, at)),
-            }
-        }
-        TokenKind::BodyIdentifier => {
-            let at = then_body_identifier(s, m);
-            TokenMatch {
-                at,
-                token: Token::BodyIdentifier(between(m, at)),
-            }
-        }
-        TokenKind::Integer => {
-            let at = then_integer(s, m);
-            TokenMatch {
-                at,
-                token: Token::Integer(between(m, at)),
-            }
-        }
-        TokenKind::SizeModifier => {
-            let at = then_size_modifier(s, m);
-            TokenMatch {
-                at,
-                token: Token::SizeModifier(between(m, at)),
-            }
-        }
+    let x = then_identifier(s, m);
+    if let Match::Took(_, _) = x {
+        return TokenMatch {
+            at: x,
+            token: Token::Identifier(between(m, x)),
+        };
+    }
+    let b = settle(s, m, x);
+    let y = then_payload_identifier(s, b);
+    if let Match::Took(_, _) = y {
+        return TokenMatch {
+            at: y,
+            token: Token::PayloadIdentifier(between(b, y)),
+        };
+    }
+    let c = settle(s, m, y);
+    let z = then_body_identifier(s, c);
+    TokenMatch {
+        at: z,
+        token: Token::BodyIdentifier(between(c, z)),
     }
 }
 
-// x, or, where it missed, the token tried from m with the mark of x.
-pub fn or_token(s: &[u8], m: Match, x: TokenMatch, kind: TokenKind) -> TokenMatch
-    requires { ⌜ Within m (now s) × Within (x .at) (now s) ⌝ }
-    ensures { λ r. ⌜ OrToken m x (tokenOf kind) (now (s .entry)) r ⌝ }
+// An array's element: a width or a type, where m ends.
+pub struct ElementMatch {
+    pub at: Match,
+    pub element: Element,
+}
+
+pub fn then_element(s: &[u8], m: Match) -> ElementMatch
+    requires { ⌜ Within m (now s) ⌝ }
+    ensures { λ r. ⌜ Follows m (integer ∣ identifier) (now (s .entry)) (r .at) (λ o. drawElement o (r .element)) ⌝ }
 {
-    let at = x.at;
-    if let Match::Took(_, _) = at {
-        return x;
+    let x = then_integer(s, m);
+    if let Match::Took(_, _) = x {
+        return ElementMatch {
+            at: x,
+            element: Element::Width(between(m, x)),
+        };
     }
-    then_token(s, settle(s, m, at), kind)
+    let b = settle(s, m, x);
+    let y = then_identifier(s, b);
+    ElementMatch {
+        at: y,
+        element: Element::Named(between(b, y)),
+    }
+}
+
+// An array's size: a modifier or a number, where m ends.
+pub fn then_size(s: &[u8], m: Match) -> TokenMatch
+    requires { ⌜ Within m (now s) ⌝ }
+    ensures { λ r. ⌜ Follows m (size-modifier ∣ integer) (now (s .entry)) (r .at) (λ o. drawToken o (r .token)) ⌝ }
+{
+    let x = then_size_modifier(s, m);
+    if let Match::Took(_, _) = x {
+        return TokenMatch {
+            at: x,
+            token: Token::SizeModifier(between(m, x)),
+        };
+    }
+    let b = settle(s, m, x);
+    let y = then_integer(s, b);
+    TokenMatch {
+        at: y,
+        token: Token::Integer(between(b, y)),
+    }
 }

@@ -19,7 +19,7 @@ use types.Kit.{Given, ‵, raw, some, later, _⊛_, ⋆, _$_, _∵_, !, qed, by,
 use types.Run.{look, look-raw, init, forget, stop, hop, from, load, of-opd, and-then, no-more, assigns, land, returns, enter, alloc1, alloc0, params1, pass1, pass0, free1, free0}
 use types.SemTy.{Body}
 use sound.WpLaws.{FmC, fmOf, WpFn-mono}
-use denote.RattleType.{RattleType, owns}
+use denote.RattleType.{owns}
 use denote.Memory.{mem}
 use denote.Laws.{Is, shows}
 use denote.Builtin.{u64}
@@ -40,7 +40,7 @@ use denote.Exit.{yes}
 use Rattle.meaning.specs.declared.Aligner.{Aligner}
 use Rattle.alignment.specs.declared.Ended.{Ended}
 use Rattle.alignment.specs.Answers.{ended}
-use Rattle.byte_aligner.specs.Lent.{finished, alignAt}
+use Rattle.byte_aligner.specs.Lent.{finished}
 use Rattle.meaning.proofs.Aligner as T
 use Rattle.meaning.proofs.Aligner.Laws as T′
 use Rattle.alignment.proofs.Ended as S
