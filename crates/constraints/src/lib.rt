@@ -69,7 +69,8 @@ fn then_comma(s: &[u8], m: Match) -> Match
     requires { ⌜ Within m (now s) ⌝ }
     ensures { λ r. ⌜ Steps m (text "," ~ constraint) (now (s .entry)) r ⌝ }
 {
-    let c = then_constraint(s, then_blanks(s, then_literal(s, m, b",")));
+    let b = then_blanks(s, then_literal(s, m, b","));
+    let c = then_constraint(s, b);
     c.at
 }
 

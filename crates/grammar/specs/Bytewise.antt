@@ -11,8 +11,9 @@ use lib.Dec.{leb}
 use Rattle.meaning.specs.Utf8.{character, onward, validFor, valid}
 use Rattle.meaning.specs.Rules.{Rule}
 use Rattle.meaning.specs.Peg.{Peg, lit, range, any, any-byte, end, neg, seq, alt, star, opt, quiet, rule, prefixb, bytewise}
-use Rattle.meaning.specs.Forest.{Out, afterO, orElseO, maybeO, turnedO, hushedO, noteO, eval}
+use Rattle.meaning.specs.Forest.{Out, missed, took, afterO, orElseO, maybeO, turnedO, hushedO, noteO, eval}
 use Rattle.meaning.specs.Pdl.{file, file-start, file-line, file-head, rules}
+use Rattle.grammar.specs.Fits.{character-le}
 use Rattle.grammar.specs.Joining.{Chars, done, char, asciis, past-text, Keeps, Alike, alike-after, alike-orElse, alike-many, keeps-maybe, keeps-turned, keeps-hushed, keeps-note, keeps-lit, keeps-range, keeps-end, upto}
 
 -- ASCII texts and ranges; ANY only in (!x ~ ANY)*, with x ASCII
@@ -189,6 +190,35 @@ pub file-head-joined : (o : ℕ) (t : List ℕ) → valid t ≡ length t → eva
 unfolding rules
 file-head-joined = joined file-head tt
 
--- ---- what is left after a match of valid text is valid text
-pub left-valid : (g : Peg) → Found (tame g) → (o : ℕ) (t : List ℕ) → valid t ≡ length t → Keeps (eval g o t) t
-left-valid g h o t v = joins (found (tame g) h) o t (valid-chars t v) .1
+-- ---- what is left after a match of valid text is valid
+no-character : character [] ≡ 0
+unfolding character
+no-character = refl
+
+valid-empty : (k : ℕ) → validFor k [] ≡ 0
+unfolding validFor
+valid-empty zero = refl
+valid-empty (suc k) = ap (λ (c : ℕ). onward c (λ u. validFor k u) []) no-character
+
+valid-turn : (k n : ℕ) (t : List ℕ) → character t ≡ suc n → validFor (suc k) t ≡ suc n + validFor k (drop (suc n) t)
+unfolding validFor
+valid-turn k n t e = ap (λ (c : ℕ). onward c (λ u. validFor k u) t) e
+
+chars-valid : {t : List ℕ} → Chars t → (k : ℕ) → length t ≤ k → validFor k t ≡ length t
+chars-valid done k h = valid-empty k
+chars-valid (char t n e c) zero h = absurd (let z : suc n ≤ length t = rw e at (character-le t) in omega arith)
+chars-valid (char t n e c) (suc k) h =
+    let z : suc n ≤ length t = rw e at (character-le t) in
+    let r : validFor k (drop (suc n) t) ≡ length (drop (suc n) t) = chars-valid c k (omega (arith, length-drop (suc n) t)) in
+    valid-turn k n t e ∙ omega (arith, r, length-drop (suc n) t)
+
+abbrev pub LeftValid : Out → List ℕ → Type 0
+LeftValid (missed f) t = Unit {0}
+LeftValid (took n f w) t = valid (drop n t) ≡ length (drop n t)
+
+left : (x : Out) (t : List ℕ) → Keeps x t → LeftValid x t
+left (missed f) t h = tt
+left (took n f w) t h = chars-valid h (length (drop n t)) (omega arith)
+
+pub left-valid : (g : Peg) → Found (tame g) → (o : ℕ) (t : List ℕ) → valid t ≡ length t → LeftValid (eval g o t) t
+left-valid g h o t v = left (eval g o t) t (joins (found (tame g) h) o t (valid-chars t v) .1)

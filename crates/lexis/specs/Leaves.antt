@@ -15,6 +15,7 @@ use Rattle.meaning.specs.Forest.{Forest, nil, tree, _⊕_, Out, missed, took, o
 use Rattle.meaning.specs.Pdl.{WHITESPACE, COMMENT, skip, alpha, digit, hexdigit, alphanum, identifier, payload-identifier, body-identifier, intvalue, hexvalue, integer, string, size-modifier, ENUM, PACKET, STRUCT, GROUP, CHECKSUM, CUSTOM-FIELD, TEST, endianness-declaration}
 use Rattle.grammar.specs.Fits.{both-1, both-2}
 use Rattle.grammar.specs.Agree.{same}
+use Rattle.grammar.specs.Nodes.{clean-⊕}
 
 -- no rule but comments, as a test
 abbrev pub silent : Peg → Bool
@@ -32,14 +33,6 @@ silent (quiet p) = silent p
 silent (rule r p) = is Rule.COMMENT r
 
 -- ---- what is cleaned to nothing
-pub clean-⊕ : (v w : Forest) → clean (v ⊕ w) ≡ clean v ⊕ clean w
-clean-⊕ nil w = refl
-clean-⊕ (tree r s l k more) w = go (is Rule.COMMENT r) (clean-⊕ more w)
-  where
-    go : (b : Bool) → clean (more ⊕ w) ≡ clean more ⊕ clean w → pick b (clean (more ⊕ w)) (tree r s l (clean k) (clean (more ⊕ w))) ≡ pick b (clean more) (tree r s l (clean k) (clean more)) ⊕ clean w
-    go true e = e
-    go false e = ap (tree r s l (clean k)) e
-
 abbrev Bare : Out → Type 0
 Bare x = clean (forest x) ≡ nil
 

@@ -8,12 +8,13 @@ use lib.ListN.{length, take, drop, length-drop}
 use lib.Seq.{drop-drop}
 use Rattle.meaning.specs.declared.Match.{Match}
 use Rattle.meaning.specs.declared.Match.the-variants.{Missed, Took}
-use Rattle.meaning.specs.Peg.{Peg, seq, star, lift, join, after, hushed, again, many, run, bytewise, hit, taken}
+use Rattle.meaning.specs.Peg.{Peg, seq, star, lift, join, after, hushed, again, run, bytewise, hit, taken}
 use Rattle.meaning.specs.Pdl.{WHITESPACE, block-comment, line-comment, COMMENT, skip}
 use Rattle.grammar.specs.Matching.{Within, Reads, Steps, eats}
 use Rattle.grammar.specs.Fits.{join-join, within-run}
 use Rattle.grammar.specs.Stars.{Pos, eats-pos, unroll}
 use Rattle.grammar.specs.Steps.{reads, steps, at, rest-is, took-le}
+use Rattle.grammar.specs.Nodes.{hit-star}
 use Rattle.lexis.specs.declared.bytes.Class.the-variants.{Space}
 use Rattle.lexis.specs.Classes.{classed, span, Runs, star-one}
 
@@ -25,19 +26,6 @@ pub record Skips (t : List ℕ) (r : ℕ) : Type 0 where
 hit-join : (n f : ℕ) (m : Match) → hit m ≡ true → hit (join n f m) ≡ true
 hit-join n f (Missed g) e = e
 hit-join n f (Took k g) e = refl
-
-hit-again : (m : Match) (q : List ℕ → Match) (u : List ℕ) → ((v : List ℕ) → hit (q v) ≡ true) → hit (again m q u) ≡ true
-hit-again (Missed f) q u h = refl
-hit-again (Took n f) q u h = hit-join n f (q (drop n u)) (h (drop n u))
-
-hit-many : (k : ℕ) (p : List ℕ → Match) (u : List ℕ) → hit (many k p u) ≡ true
-unfolding many
-hit-many zero p u = refl
-hit-many (suc k) p u = hit-again (p u) (λ v. many k p v) u (λ v. hit-many k p v)
-
-pub hit-star : (p : Peg) (t : List ℕ) → hit (run (star p) t) ≡ true
-unfolding run
-hit-star p t = hit-many (suc (length t)) (λ u. run p u) t
 
 hit-after : (m : Match) (q : List ℕ → Match) (t : List ℕ) → hit m ≡ true → ((u : List ℕ) → hit (q u) ≡ true) → hit (after m q t) ≡ true
 hit-after (Missed f) q t e h = e
