@@ -1,0 +1,195 @@
+-- Each answer of the judging functions, from the tests that led to it.
+use Prim.Native.Nat.{ℕ, _+_, _-_, _%_, _<_, _≤_}
+use mathlib.Core.Path.{_≡_, refl, sym, _∙_}
+use mathlib.Core.List.{List, [], _∷_}
+use mathlib.Core.Bool.{Bool, true, false}
+use native.Mathlib.Omega.{arith}
+use native.Mathlib.Numerals.{add-one}
+use lib.ListN.{length, getD, drop, drop-of-length-le}
+use lib.Seq.{drop-cons}
+use lib.Dec.{ltb, eqb}
+use borrow.Author.Tests.{lt-ltb, le-ltb, le-leb, lt-leb, eq-eqb, ne-eqb}
+use Rattle.meaning.specs.declared.Aligner.{Aligner}
+use Rattle.meaning.specs.Choice.{pick, both}
+use Rattle.meaning.specs.Tables.{room}
+use Rattle.meaning.specs.Alignment.{World, world, sound, due, bits-number, dyn-number, bits-done, chunk-done, Called, add-bitfield, add-dyn-bytes, call}
+use Rattle.meaning.specs.Feeding.{word, among, numbered}
+use Rattle.alignment.specs.declared.Called as answer
+use Rattle.alignment.specs.NumberLaws.{Sound, sound-is}
+use Rattle.layout.specs.declared.Request.{Request}
+use Rattle.layout.specs.declared.Request.the-variants.{Nothing, Bits, Dynamic, Refused}
+use Rattle.layout.specs.Requests.{damage, by-kind, request, served}
+use Rattle.layout.specs.Judging.{judged}
+
+-- ---- a search among kinds
+module _ (k : ℕ) (xs : List ℕ) (i : ℕ) where
+  pub among-here : i < length xs → k ≡ getD xs i 0 → true ≡ among k (drop i xs)
+  among-here l h = rw (drop-cons xs i 0 l) (simp (eq-eqb _ _ h))
+
+  pub among-next : i < length xs → (k ≡ getD xs i 0 → ⊥) → among k (drop (i + 1) xs) ≡ among k (drop i xs)
+  among-next l h = rw (add-one i, drop-cons xs i 0 l) (simp (ne-eqb _ _ h))
+
+  pub among-none : length xs ≤ i → false ≡ among k (drop i xs)
+  among-none l = rw (drop-of-length-le xs l)
+
+-- ---- the tests of 17; the last is that of number a
+present : (b : Bool) → false ≡ ltb 0 (pick (both b false) 17 0)
+present true = refl
+present false = refl
+
+missing : (b : Bool) → b ≡ ltb 0 (pick (both b true) 17 0)
+missing true = refl
+missing false = refl
+
+module _ (k f o : ℕ) where
+  pub damage-low : k < 1 → true ≡ damage k f o
+  unfolding damage
+  damage-low h = simp (lt-ltb _ _ h)
+
+  module _ (h : 1 ≤ k) where
+    pub damage-high : 14 < k → true ≡ damage k f o
+    unfolding damage
+    damage-high i = simp (le-ltb _ _ h, lt-ltb _ _ i)
+
+    module _ (i : k ≤ 14) where
+      pub damage-flag : 1 < f → true ≡ damage k f o
+      unfolding damage
+      damage-flag j = simp (le-ltb _ _ h, le-ltb _ _ i, lt-ltb _ _ j)
+
+      module _ (j : f ≤ 1) where
+        pub damage-other : 1 < o → true ≡ damage k f o
+        unfolding damage
+        damage-other l = simp (le-ltb _ _ h, le-ltb _ _ i, le-ltb _ _ j, lt-ltb _ _ l)
+
+        module _ (l : o ≤ 1) where
+          pub damage-none : (f ≡ 0 → ⊥) → false ≡ damage k f o
+          unfolding damage
+          damage-none z = simp (le-ltb _ _ h, le-ltb _ _ i, le-ltb _ _ j, le-ltb _ _ l, ne-eqb _ _ z) (present (among k numbered))
+
+          pub damage-missing : f ≡ 0 → (b : Bool) → b ≡ among k numbered → b ≡ damage k f o
+          unfolding damage
+          damage-missing z b e = simp (le-ltb _ _ h, le-ltb _ _ i, le-ltb _ _ j, le-ltb _ _ l, eq-eqb _ _ z) (e ∙ missing (among k numbered))
+
+-- ---- what a kind asks for
+module _ (k v : ℕ) (b : Bool) (e : b ≡ among k (3 ∷ 4 ∷ 5 ∷ 8 ∷ 10 ∷ 12 ∷ [])) where
+  pub kind-bits : b ≡ true → Bits v ≡ by-kind k v
+  unfolding by-kind
+  kind-bits t = rw (sym e ∙ t)
+
+  module _ (t : b ≡ false) (d : Bool) (g : d ≡ among k (6 ∷ 7 ∷ 11 ∷ [])) where
+    pub kind-dynamic : d ≡ true → Dynamic ≡ by-kind k v
+    unfolding by-kind
+    kind-dynamic u = rw (sym e ∙ t, sym g ∙ u)
+
+    module _ (u : d ≡ false) (n : Bool) (h : n ≡ among k (1 ∷ 2 ∷ [])) where
+      pub kind-nothing : n ≡ true → Nothing ≡ by-kind k v
+      unfolding by-kind
+      kind-nothing x = rw (sym e ∙ t, sym g ∙ u, sym h ∙ x)
+
+      pub kind-refused : n ≡ false → Refused 14 ≡ by-kind k v
+      unfolding by-kind
+      kind-refused x = rw (sym e ∙ t, sym g ∙ u, sym h ∙ x)
+
+-- ---- what a row asks for
+module _ (fs : List ℕ) (i k f o : ℕ) (ek : k ≡ word fs 20 i 0) (ef : f ≡ word fs 20 i 13) (eo : o ≡ word fs 20 i 15) (d : Bool) (e : d ≡ damage k f o) where
+  damage-is : damage (word fs 20 i 0) (word fs 20 i 13) (word fs 20 i 15) ≡ d
+  damage-is = rw (← ek, ← ef, ← eo) (sym e)
+
+  pub request-damaged : d ≡ true → Refused 17 ≡ request fs i
+  unfolding request
+  request-damaged t = rw (damage-is ∙ t)
+
+  module _ (t : d ≡ false) (c : ℕ) (ec : c ≡ word fs 20 i 19) where
+    pub request-condition : 0 < c → Dynamic ≡ request fs i
+    unfolding request
+    request-condition l = rw (damage-is ∙ t, ← ec) (simp (lt-ltb _ _ l))
+
+    pub request-kind : c ≤ 0 → (v : ℕ) → v ≡ word fs 20 i 14 → (r : Request) → r ≡ by-kind k v → r ≡ request fs i
+    unfolding request
+    request-kind l v ev r er = rw (damage-is ∙ t, ← ec, ← ek, ← ev) (simp (le-ltb _ _ l) er)
+
+pub due-none : (t : ℕ) → t ≡ 0 → false ≡ due t
+unfolding due
+due-none t h = simp h
+
+pub due-some : (t : ℕ) → (t ≡ 0 → ⊥) → eqb (t % 8) 0 ≡ due t
+unfolding due
+due-some t h = let p : 0 < t = omega arith in simp (lt-ltb _ _ p)
+
+-- ---- what the aligner would answer
+module _ (a : Aligner) (ps cs : List ℕ) (s : Sound (world a ps cs)) where
+  good : ltb 0 (sound (world a ps cs)) ≡ false
+  good = rw (sound-is (world a ps cs) s)
+
+  module _ (v : ℕ) where
+    pub bits-12 : 64 - a .width < v → record { number = 12; state = a } ≡ judged (Bits v) a ps cs
+    unfolding judged served call bits-number
+    bits-12 h = let z : 64 < a .width + v = omega (arith, s .narrow) in simp (good, lt-ltb _ _ z)
+
+    module _ (h : v ≤ 64 - a .width) where
+      fits : ltb 64 (a .width + v) ≡ false
+      fits = le-ltb 64 (a .width + v) (omega (arith, s .narrow))
+
+      pub bits-13 : room 3 ps ≤ a .placed → record { number = 13; state = a } ≡ judged (Bits v) a ps cs
+      unfolding judged served call bits-number
+      bits-13 i = simp (good, fits, le-leb _ _ i)
+
+      module _ (i : a .placed < room 3 ps) (b : Bool) (e : b ≡ due (a .width + v)) where
+        pub bits-13′ : b ≡ true → room 5 cs ≤ a .chunks → record { number = 13; state = a } ≡ judged (Bits v) a ps cs
+        unfolding judged served call bits-number
+        bits-13′ t j = simp (good, fits, lt-leb _ _ i, sym e ∙ t, le-leb _ _ j)
+
+        pub bits-chunk : b ≡ true → a .chunks < room 5 cs
+            → record { number = 0; state = record { placed = a .placed + 1; chunks = a .chunks + 1; start = a .placed + 1; width = 0 } } ≡ judged (Bits v) a ps cs
+        unfolding judged served call bits-number bits-done
+        bits-chunk t j = simp (good, fits, lt-leb _ _ i, sym e ∙ t, lt-leb _ _ j)
+
+        pub bits-staged : b ≡ false
+            → record { number = 0; state = record { placed = a .placed + 1; chunks = a .chunks; start = a .start; width = a .width + v } } ≡ judged (Bits v) a ps cs
+        unfolding judged served call bits-number bits-done
+        bits-staged t = simp (good, fits, lt-leb _ _ i, sym e ∙ t)
+
+  pub dyn-10 : a .start < a .placed → record { number = 10; state = a } ≡ judged Dynamic a ps cs
+  unfolding judged served call dyn-number
+  dyn-10 h = simp (good, lt-ltb _ _ h)
+
+  module _ (h : a .placed ≤ a .start) where
+    pub dyn-13 : room 5 cs ≤ a .chunks → record { number = 13; state = a } ≡ judged Dynamic a ps cs
+    unfolding judged served call dyn-number
+    dyn-13 i = simp (good, le-ltb _ _ h, le-leb _ _ i)
+
+    pub dyn-chunk : a .chunks < room 5 cs
+        → record { number = 0; state = record { placed = a .placed; chunks = a .chunks + 1; start = a .start; width = a .width } } ≡ judged Dynamic a ps cs
+    unfolding judged served call dyn-number chunk-done
+    dyn-chunk i = simp (good, le-ltb _ _ h, lt-leb _ _ i)
+
+-- ---- by the request
+module _ (q : Request) (a : Aligner) (ps cs : List ℕ) where
+  pub judged-nothing : q ≡ Nothing → record { number = 0; state = a } ≡ judged q a ps cs
+  unfolding judged served
+  judged-nothing e = rw e
+
+  pub judged-refused : (n : ℕ) → q ≡ Refused n → record { number = n; state = a } ≡ judged q a ps cs
+  unfolding judged served
+  judged-refused n e = rw e
+
+  pub judged-as : (r : Request) (x : answer.Called) → q ≡ r → x ≡ judged r a ps cs → x ≡ judged q a ps cs
+  judged-as r x e h = rw e h
+
+module _ (q : Request) (i : ℕ) (w : World) where
+  pub served-nothing : q ≡ Nothing → w ≡ served q i w .left
+  unfolding served
+  served-nothing e = rw e
+
+  pub served-refused : (n : ℕ) → q ≡ Refused n → w ≡ served q i w .left
+  unfolding served
+  served-refused n e = rw e
+
+  module _ (x : Called) where
+    pub served-bits : (v : ℕ) → q ≡ Bits v → x ≡ call (add-bitfield i v) w → x .left ≡ served q i w .left
+    unfolding served
+    served-bits v e h = rw (e, h)
+
+    pub served-dynamic : q ≡ Dynamic → x ≡ call (add-dyn-bytes i) w → x .left ≡ served q i w .left
+    unfolding served
+    served-dynamic e h = rw (e, h)

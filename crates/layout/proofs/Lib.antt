@@ -1,0 +1,4 @@
+pub mod Laws
+pub mod JudgingLaws
+pub mod LoopLaws
+pub mod WholeLaws

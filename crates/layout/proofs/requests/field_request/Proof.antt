@@ -1,0 +1,20 @@
+-- `layout::requests::field_request` meets its contract: the words read decide.
+use Rattle.layout.proofs.Laws.{request-damaged, request-condition, request-kind}
+use borrow.Author.Needs.{needs}
+use Rattle.layout.proofs.requests.field_request.Statement.{statement}
+use Rattle.layout.proofs.requests.field_request.Tie as tie
+
+returns : tie.Need-returns
+returns c = request-damaged _ _ _ _ _ (c .before .before .before .before .word-of .ensures) (c .before .before .before .word-of2 .ensures) (c .before .before .word-of3 .ensures) _ (c .before .is-damaged .ensures) (c .if1 .taken)
+
+returns-2 : tie.Need-returns-2
+returns-2 c = request-condition _ _ _ _ _ (c .before .before .before .before .before .before .word-of .ensures) (c .before .before .before .before .before .word-of2 .ensures) (c .before .before .before .before .word-of3 .ensures) _ (c .before .before .before .is-damaged .ensures) (c .before .before .if1 .left) _ (c .before .word-of4 .ensures) (c .if2 .taken)
+
+returns-3 : tie.Need-returns-3
+returns-3 c = request-kind _ _ _ _ _ (c .before .before .before .before .before .before .before .before .word-of .ensures) (c .before .before .before .before .before .before .before .word-of2 .ensures) (c .before .before .before .before .before .before .word-of3 .ensures) _ (c .before .before .before .before .before .is-damaged .ensures) (c .before .before .before .before .if1 .left) _ (c .before .before .before .word-of4 .ensures) (c .before .before .if2 .left) _ (c .before .word-of5 .ensures) _ (c .kind-request .ensures)
+
+pub field-request-spec : {M : Type 1} → statement M
+field-request-spec =
+    tie.close
+    (tie.spec (λ c κs. search needs) (λ c κs. search needs) (λ c κs. search needs) (λ c κs. search needs) returns (λ c κs. search needs) returns-2
+    (λ c κs. search needs) (λ c κs. search needs) returns-3)

@@ -1,0 +1,53 @@
+-- What the judging pass answers, and the answer of the whole with the words that it leaves.
+use Prim.Native.Nat.{ℕ, zero, suc, _+_, _≤_}
+use mathlib.Core.Path.{_≡_, ap}
+use mathlib.Core.List.{List}
+use lib.Dec.{eqb}
+use Rattle.meaning.specs.declared.Aligner.{Aligner}
+use Rattle.meaning.specs.Choice.{pick}
+use Rattle.meaning.specs.Tables.{room}
+use Rattle.meaning.specs.Alignment.{fresh, world, staged, end-number}
+use Rattle.meaning.specs.Feeding as meaning
+use Rattle.alignment.specs.declared.Called.{Called}
+use Rattle.layout.specs.declared.Layout as answer
+use Rattle.layout.specs.declared.Request.{Request}
+use Rattle.layout.specs.declared.Verdict.{Verdict}
+use Rattle.layout.specs.Requests.{request, served}
+
+-- an answer that leaves the state as it is
+abbrev pub same : ℕ → Aligner → Called
+same n a = record { number = n; state = a }
+
+-- a call's number and the state after it; neither depends on the symbol
+unfoldable pub judged : Request → Aligner → List ℕ → List ℕ → Called
+judged q a ps cs = let c = served q 0 (world a ps cs) in record { number = c .number; state = c .left .st }
+
+abbrev pub verdict : meaning.Fed → Verdict
+verdict x = record { number = x .number; place = x .place }
+
+abbrev pub then : Called → ℕ → (Aligner → Verdict) → Verdict
+then c i q = elim (c .number) [ zero ↦ q (c .state) | suc m ↦ record { number = suc m; place = i } ]
+
+-- n fields from row i on, then the end, over tables that stay as they are; f is the first staged field row
+unfoldable pub judge : List ℕ → List ℕ → List ℕ → ℕ → ℕ → Aligner → ℕ → Verdict
+judge fs ps cs zero i a f =
+    let n = end-number (world a ps cs) in
+    record { number = n; place = pick (eqb n 0) 0 f }
+judge fs ps cs (suc n) i a f = then (judged (request fs i) a ps cs) i (λ b. judge fs ps cs n (i + 1) b (pick (staged a) f i))
+
+-- the fields are rows, and feeding them is accepted
+pub record Accepted (fs : List ℕ) (first count : ℕ) (ps cs : List ℕ) : Type 0 where
+  pub rows : first + count ≤ room 20 fs
+  pub number : meaning.feed-fields fs count first (world fresh ps cs) .number ≡ 0
+
+-- the answer of the whole with the words that it leaves
+abbrev pub answered : answer.Layout → List ℕ → List ℕ → meaning.Layout
+answered r ps cs =
+    record { number = r .number; place = r .place; placed = r .placed; chunks = r .chunks; ps = ps; cs = cs }
+
+-- it settles each of them: no two outcomes meet one equation
+abbrev alone : meaning.Layout → answer.Layout
+alone x = record { number = x .number; place = x .place; placed = x .placed; chunks = x .chunks }
+
+pub settles : (r q : answer.Layout) (ps cs ps′ cs′ : List ℕ) → answered r ps cs ≡ answered q ps′ cs′ → (r ≡ q) × ((ps ≡ ps′) × (cs ≡ cs′))
+settles r q ps cs ps′ cs′ e = (ap alone e, (ap (λ (x : meaning.Layout). x .ps) e, ap (λ (x : meaning.Layout). x .cs) e))
