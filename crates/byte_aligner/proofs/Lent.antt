@@ -11,9 +11,11 @@ use mir.Syntax.{Name, Ty, Fn, named, erased, mut, w64, tyInt, tyRef, local, valu
 use mir.Val.{Val, vint, vptr}
 use base.Logic.{SProp, ent, sep, emp, via, fst∗, id⊢}
 use base.Fml.{Lft, Share, GName, Fml, ftrue, fat, flft, fobs, fbor}
+use prog.Memory.{Memory}
+use prog.Routine.{Routine}
 use prog.Wp.{Heap, Calls, Loops, WpFn, Tables}
 use ghost.Atoms.{Atoms, sem}
-use contract.Monad.{fact}
+use contract.Monad.{Fun, fact}
 use types.Kit.{Given, ‵, raw, some, later, _⊛_, ⋆, _$_, _∵_, !, qed, by, move, keep, drop, use1, use2, split, join, pick, rewrite, fsplit, fsplit3, fjoin, fjoin3, feqL, feqI, suffices, frame, await, done}
 use types.Run.{look, look-raw, store-raw, init, forget, stop, hop, fld, from, load, addr, of-opd, and-then, no-more, assigns, land, returns, enter, alloc1, alloc0, params1, pass1, pass0, free1, free0}
 use types.Part.{agg, whole, sub, look-in}
@@ -37,7 +39,7 @@ use denote.Triple.Call.{calls-at}
 use denote.Triple.Clauses.{Clauses, closing, ensured, lasts}
 use denote.Triple.Walked.{says, Stays, stay-ref, gave-slice, stay-none, walkOf, AllGo, goes-ref, goes-gave-slice, goes-none, Walks, ends-at, walked, walk-meets}
 use denote.Exit.{yes}
-use Rattle.meaning.specs.Alignment.{Call, Called, world, call}
+use Rattle.meaning.specs.Alignment.{Call, add-bitfield, world, call}
 use Rattle.meaning.specs.declared.Aligner.{Aligner}
 use Rattle.alignment.specs.declared.Called as answer
 use Rattle.alignment.specs.Answers.{called}
@@ -88,6 +90,10 @@ Rule = ℕ → ℕ → Call
 -- the two contracts, at a rule
 abbrev pub lentClauses : {M : Type 1} (𝓤 : URA M) → Rule → Clauses 𝓤 f.ended
 lentClauses 𝓤 rule κs x = record { ghost = Unit {0}; requires = λ _. emp 𝓤; ensures = λ _ r e. fact 𝓤 (answered r (now (e .0)) (now (e .1 .0)) (now (e .1 .1 .0)) ≡ call (rule (x .1 .1 .1 .0) (x .1 .1 .1 .1 .0)) (world (now (x .0)) (now (x .1 .0)) (now (x .1 .1 .0)))) }
+
+-- as the first of the functions states it
+stated : {M : Type 1} (𝓤 : URA M) (H : Heap 𝓤) (A : Atoms 𝓤) (at-mem : Memory → SProp 𝓤) (run : Routine → Fun 𝓤) → f.clauses 𝓤 H A at-mem run ≡ lentClauses 𝓤 add-bitfield
+stated 𝓤 H A at-mem run = refl
 
 abbrev pub coreClauses : {M : Type 1} (𝓤 : URA M) → Rule → Clauses 𝓤 core.ended
 coreClauses 𝓤 rule κs x = record { ghost = Unit {0}; requires = λ _. emp 𝓤; ensures = λ _ r e. fact 𝓤 (called r (now (e .1 .0)) (now (e .1 .1 .0)) ≡ call (rule (x .1 .1 .1 .0) (x .1 .1 .1 .1 .0)) (world (x .0) (now (x .1 .0)) (now (x .1 .1 .0)))) }

@@ -27,6 +27,7 @@ use crate::kinds::scalar_field;
 use crate::kinds::size_field;
 use crate::kinds::typedef_field;
 use lexis::blanks::then_blanks;
+use lexis::blanks::then_last_comma;
 use lexis::texts::literal;
 use lexis::texts::then_literal;
 use meaning::Match;
@@ -204,9 +205,8 @@ pub fn then_field_list(s: &[u8], m: Match) -> Match
     ensures { λ r. ⌜ Steps m field-list (now (s .entry)) r ⌝ }
 {
     let b = then_blanks(s, then_field(s, m));
-    let more = settle(s, b, then_commas(s, then_comma(s, b)));
-    let c = then_blanks(s, more);
-    settle(s, c, then_literal(s, c, b","))
+    let all = settle(s, b, then_commas(s, then_comma(s, b)));
+    then_last_comma(s, all)
 }
 
 // A list of fields at the front.

@@ -1,3 +1,4 @@
 pub mod Classes
 pub mod Skips
 pub mod Leaves
+pub mod Listed

@@ -1,6 +1,6 @@
 // Comments and blank runs.
-ghost use Rattle.meaning.specs.Peg.{lit, seq};
-ghost use Rattle.meaning.specs.Pdl.{block-comment, line-comment, COMMENT, skip};
+ghost use Rattle.meaning.specs.Peg.{lit, seq, opt};
+ghost use Rattle.meaning.specs.Pdl.{text, block-comment, line-comment, COMMENT, skip};
 ghost use Rattle.grammar.specs.Matching.{Within, Reads, Steps};
 ghost use Rattle.lexis.specs.Skips.{Skips};
 use crate::bytes::Class;
@@ -10,6 +10,7 @@ use crate::texts::literal;
 use crate::texts::then_literal;
 use crate::texts::then_up_to;
 use grammar::joined;
+use grammar::settle;
 use meaning::Match;
 
 // A block comment; an unclosed one is none.
@@ -69,4 +70,13 @@ pub fn next_literal(s: &[u8], m: Match, l: &[u8]) -> Match
     ensures { λ r. ⌜ Steps m (seq skip (lit (now (l .entry)))) (now (s .entry)) r ⌝ }
 {
     then_literal(s, then_blanks(s, m), l)
+}
+
+// A last comma or none, after a blank run, where m ends: so ends every list but one of constraints.
+pub fn then_last_comma(s: &[u8], m: Match) -> Match
+    requires { ⌜ Within m (now s) ⌝ }
+    ensures { λ r. ⌜ Steps m (seq skip (opt (text ","))) (now (s .entry)) r ⌝ }
+{
+    let b = then_blanks(s, m);
+    settle(s, b, then_literal(s, b, b","))
 }

@@ -10,6 +10,7 @@ use grammar::joined;
 use grammar::settle;
 use lexis::blanks::next_literal;
 use lexis::blanks::then_blanks;
+use lexis::blanks::then_last_comma;
 use lexis::texts::then_literal;
 use lexis::tokens::then_identifier;
 use lexis::tokens::then_integer;
@@ -53,15 +54,6 @@ pub fn then_enum_value(s: &[u8], m: Match) -> Match
             joined(s, n, f, at)
         }
     }
-}
-
-// A last comma or none, after a blank run, where m ends: so ends every list but one of constraints.
-pub fn then_last_comma(s: &[u8], m: Match) -> Match
-    requires { ⌜ Within m (now s) ⌝ }
-    ensures { λ r. ⌜ Steps m (seq skip (opt (text ","))) (now (s .entry)) r ⌝ }
-{
-    let b = then_blanks(s, m);
-    settle(s, b, then_literal(s, b, b","))
 }
 
 // A comma and a value, where m ends.

@@ -1,7 +1,7 @@
 use borrow.Author.Needs.{needs}
 use Rattle.meaning.specs.Rules.{Rule}
 use Rattle.meaning.specs.Pdl.{enum-value-list}
-use Rattle.tags.proofs.Laws.{listed}
+use Rattle.lexis.specs.Listed.{listed}
 use Rattle.tags.proofs.then_enum_value_list.Statement.{statement}
 use Rattle.tags.proofs.then_enum_value_list.Tie as tie
 

@@ -1,7 +1,7 @@
 use borrow.Author.Needs.{needs}
 use Rattle.grammar.specs.Steps.{link, option}
-use Rattle.tags.proofs.then_last_comma.Statement.{statement}
-use Rattle.tags.proofs.then_last_comma.Tie as tie
+use Rattle.lexis.proofs.blanks.then_last_comma.Statement.{statement}
+use Rattle.lexis.proofs.blanks.then_last_comma.Tie as tie
 
 returns : tie.Need-returns
 returns c =

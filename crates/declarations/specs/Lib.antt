@@ -1,0 +1,4 @@
+pub mod Headers
+pub mod Kept
+pub mod Kinds
+pub mod Files

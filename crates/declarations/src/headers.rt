@@ -1,0 +1,150 @@
+// The heads of declarations: each rule up to its first list of tags or fields, or to its end where it has none, with all that
+// the row of a declaration needs.
+ghost use Rattle.meaning.specs.Rules.{Rule};
+ghost use Rattle.grammar.specs.Matching.{Within};
+ghost use Rattle.grammar.specs.Drawing.{Draws};
+ghost use Rattle.spans.specs.Drawn.{drawHeader};
+ghost use Rattle.declarations.specs.Headers.{enum-head, packet-head, struct-head, group-head, checksum-head, custom-head, Heads};
+use constraints::then_constraint_list;
+use grammar::settle;
+use lexis::blanks::next_literal;
+use lexis::blanks::then_blanks;
+use lexis::texts::then_literal;
+use lexis::tokens::keyword;
+use lexis::tokens::then_identifier;
+use lexis::tokens::then_integer;
+use lexis::tokens::then_string;
+use meaning::Match;
+use spans::Header;
+use spans::Token;
+use spans::between;
+use spans::kept_span;
+use spans::kept_token;
+use spans::nowhere;
+
+// `enum`, the id, the width, and the brace.
+pub fn enum_head(s: &[u8]) -> Header
+    ensures { λ r. ⌜ Draws enum-head (now (s .entry)) (r .at) (λ o. drawHeader Rule.ENUM o (now (s .entry)) r) ⌝ }
+{
+    let start = Match::Took(0, 0);
+    let k = keyword(s, b"enum");
+    let a = then_blanks(s, k);
+    let id = then_identifier(s, a);
+    let b = then_blanks(s, next_literal(s, id, b":"));
+    let width = then_integer(s, b);
+    Header {
+        at: next_literal(s, width, b"{"),
+        keyword: between(start, k),
+        id: between(a, id),
+        parent: Token::Absent,
+        width: Token::Integer(between(b, width)),
+        function: Token::Absent,
+        constraints: nowhere(),
+    }
+}
+
+// What follows the keyword k of a packet or a struct: the id, perhaps a parent, perhaps constraints, and the brace.
+fn parent_head(s: &[u8], k: Match) -> Header
+    requires { ⌜ Within k (now s) ⌝ }
+    ensures { λ r. ⌜ Heads k (now (s .entry)) r ⌝ }
+{
+    let start = Match::Took(0, 0);
+    let a = then_blanks(s, k);
+    let id = then_identifier(s, a);
+    let b = then_blanks(s, id);
+    let c = then_blanks(s, then_literal(s, b, b":"));
+    let parent = then_identifier(s, c);
+    let d = then_blanks(s, settle(s, b, parent));
+    let e = then_blanks(s, then_literal(s, d, b"("));
+    let list = then_constraint_list(s, e);
+    let closed = next_literal(s, list, b")");
+    Header {
+        at: next_literal(s, settle(s, d, closed), b"{"),
+        keyword: between(start, k),
+        id: between(a, id),
+        parent: kept_token(parent, Token::Identifier(between(c, parent))),
+        width: Token::Absent,
+        function: Token::Absent,
+        constraints: kept_span(closed, between(e, list)),
+    }
+}
+
+// The head of a packet.
+pub fn packet_head(s: &[u8]) -> Header
+    ensures { λ r. ⌜ Draws packet-head (now (s .entry)) (r .at) (λ o. drawHeader Rule.PACKET o (now (s .entry)) r) ⌝ }
+{
+    parent_head(s, keyword(s, b"packet"))
+}
+
+// The head of a struct.
+pub fn struct_head(s: &[u8]) -> Header
+    ensures { λ r. ⌜ Draws struct-head (now (s .entry)) (r .at) (λ o. drawHeader Rule.STRUCT o (now (s .entry)) r) ⌝ }
+{
+    parent_head(s, keyword(s, b"struct"))
+}
+
+// `group`, the id, and the brace.
+pub fn group_head(s: &[u8]) -> Header
+    ensures { λ r. ⌜ Draws group-head (now (s .entry)) (r .at) (λ o. drawHeader Rule.GROUP o (now (s .entry)) r) ⌝ }
+{
+    let start = Match::Took(0, 0);
+    let k = keyword(s, b"group");
+    let a = then_blanks(s, k);
+    let id = then_identifier(s, a);
+    Header {
+        at: next_literal(s, id, b"{"),
+        keyword: between(start, k),
+        id: between(a, id),
+        parent: Token::Absent,
+        width: Token::Absent,
+        function: Token::Absent,
+        constraints: nowhere(),
+    }
+}
+
+// `checksum`, the id, the width, and the function: the whole of the rule.
+pub fn checksum_head(s: &[u8]) -> Header
+    ensures { λ r. ⌜ Draws checksum-head (now (s .entry)) (r .at) (λ o. drawHeader Rule.CHECKSUM o (now (s .entry)) r) ⌝ }
+{
+    let start = Match::Took(0, 0);
+    let k = keyword(s, b"checksum");
+    let a = then_blanks(s, k);
+    let id = then_identifier(s, a);
+    let b = then_blanks(s, next_literal(s, id, b":"));
+    let width = then_integer(s, b);
+    let c = then_blanks(s, width);
+    let at = then_string(s, c);
+    Header {
+        at,
+        keyword: between(start, k),
+        id: between(a, id),
+        parent: Token::Absent,
+        width: Token::Integer(between(b, width)),
+        function: Token::Text(between(c, at)),
+        constraints: nowhere(),
+    }
+}
+
+// `custom_field`, the id, perhaps a width, and the function: the whole of the rule.
+pub fn custom_field_head(s: &[u8]) -> Header
+    ensures { λ r. ⌜ Draws custom-head (now (s .entry)) (r .at) (λ o. drawHeader Rule.CUSTOM-FIELD o (now (s .entry)) r) ⌝ }
+{
+    let start = Match::Took(0, 0);
+    let k = keyword(s, b"custom_field");
+    let a = then_blanks(s, k);
+    let id = then_identifier(s, a);
+    let b = then_blanks(s, id);
+    let c = then_blanks(s, then_literal(s, b, b":"));
+    let width = then_integer(s, c);
+    let d = then_blanks(s, settle(s, b, width));
+    let at = then_string(s, d);
+    Header {
+        at,
+        keyword: between(start, k),
+        id: between(a, id),
+        parent: Token::Absent,
+        width: kept_token(width, Token::Integer(between(c, width))),
+        function: Token::Text(between(d, at)),
+        constraints: nowhere(),
+    }
+}
