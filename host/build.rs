@@ -1,4 +1,5 @@
-//! Points the library at the unchanged Rust of google/pdl, which stays where it is.
+//! Points the library at the unchanged Rust of google/pdl, which stays where it is, and, with the feature `port`, links the
+//! proved port.
 
 use std::path::{Path, PathBuf};
 use std::{env, fs};
@@ -10,16 +11,38 @@ const USUAL_FOLDER: &str = "../../shared/docs/src/pdl-compiler/src";
 const MODULES: [(&str, &str); 3] =
     [("ast", "ast.rs"), ("parser", "parser.rs"), ("alignment", "backends/common/alignment.rs")];
 
+/// Where `rt staticlib front` leaves the port.
+const PORT_FOLDER: &str = "../target/staticlib";
+
 fn main() {
     println!("cargo::rerun-if-env-changed=PDL_SRC");
     println!("cargo::rerun-if-changed=Cargo.lock");
     println!("cargo::rustc-env=PEST_VERSION={}", pest_version());
 
+    if env::var_os("CARGO_FEATURE_PORT").is_some() {
+        link_port();
+    }
     let folder = env::var_os("PDL_SRC").map_or_else(|| PathBuf::from(USUAL_FOLDER), PathBuf::from);
     let modules: String =
         MODULES.iter().filter_map(|(name, file)| module(&folder, name, file)).collect();
     let out = PathBuf::from(env::var_os("OUT_DIR").expect("cargo sets OUT_DIR"));
     fs::write(out.join("pdl.rs"), modules).expect("OUT_DIR can be written");
+}
+
+fn link_port() {
+    let archive = Path::new(PORT_FOLDER).join("libfront.a");
+    println!("cargo::rerun-if-changed={}", archive.display());
+    match fs::canonicalize(&archive) {
+        Ok(path) => {
+            let folder = path.parent().expect("a file stands in a folder");
+            println!("cargo::rustc-link-search=native={}", folder.display());
+            println!("cargo::rustc-link-lib=static=front");
+        }
+        Err(_) => println!(
+            "cargo::error=the port is not there: no {}. Make it with `rt staticlib front`.",
+            archive.display()
+        ),
+    }
 }
 
 /// A module that is read from its own place, or a complaint to the person who builds.

@@ -20,7 +20,7 @@ pub fn of_mismatch(source: &str) -> usize {
 }
 
 /// Where the blanks end that begin at an offset.
-fn blanks(source: &str, mut offset: usize) -> usize {
+pub fn blanks(source: &str, mut offset: usize) -> usize {
     loop {
         let rest = source[offset..].trim_start_matches([' ', '\t', '\r', '\n']);
         let start = source.len() - rest.len();

@@ -23,11 +23,19 @@ pub fn answer(answer: &Result<Reading, Refusal>) -> String {
 
 /// The lines of the layouts of all packets, structs and groups.
 pub fn layouts(reading: &Reading) -> String {
+    layouts_by(reading, |declarations, fields, row| feed(declarations, fields, row, Room::ENOUGH))
+}
+
+/// The same, fed by a function over the words of declaration rows and of field rows.
+pub fn layouts_by(
+    reading: &Reading,
+    feed: impl Fn(&[u64], &[u64], u64) -> Result<Layout, Refusal>,
+) -> String {
     let [declarations, fields] = [DECLARATIONS, FIELDS].map(|table| &reading.tables[table]);
     (0..)
         .zip(reading.rows(DECLARATIONS))
         .filter(|(_, declaration)| (2..=4).contains(&declaration[0]))
-        .map(|(row, _)| layout(row, &feed(declarations, fields, row, Room::ENOUGH)))
+        .map(|(row, _)| layout(row, &feed(declarations, fields, row)))
         .collect()
 }
 

@@ -46,7 +46,7 @@ one-done src at c x {n} {m} {r} {ws} {t} {u} ex e ew h =
           h .done d f g
           ∙ ap₂ (λ (x : List ℕ) (y : Walk). emits (row Table.constraints x ∷ []) (state y d f g t)) ew em
           ∙ ap (emits (row Table.constraints (rowWords src at c) ∷ [])) (sym (said-token n d f g t src at (c .value)))
-          ∙ sym (emits-append (said (tokenNumber src at (c .value))) (row Table.constraints (rowWords src at c) ∷ []) (state n d f g t))
+          ∙ sym (emits-append (said (tokenNumber src at (c .value))) (row Table.constraints (rowWords src at c) ∷ []) (state n d f g t));
     }
 
 -- one constraint adds one row
@@ -85,7 +85,7 @@ module _ {src : List ℕ} {at : ℕ} {n : Walk} {t : List ℕ} {i : ℕ} {q : So
         within = w .within;
         here = w .here;
         inside = constraint-inside i (taken (c .at)) (length src - i) (c .constraint) turn-inside (held (w .drawn) (w .hits) i);
-        few = omega (arith, w .few .constraints, w .within, constraint-some (w .drawn) (w .hits), turn-inside)
+        few = omega (arith, w .few .constraints, w .within, constraint-some (w .drawn) (w .hits), turn-inside);
       }
 
   module _ {r : Walk} {v : List ℕ} (one : WroteConstraints (itemsOf src i (c .constraint)) m r u v) where
@@ -107,7 +107,7 @@ module _ {src : List ℕ} {at : ℕ} {n : Walk} {t : List ℕ} {i : ℕ} {q : So
         let e : rest constraint src (i + taken (c .at)) ≡ nil = ap (λ (x : ℕ). rest constraint src (i + x)) (sym ek) ∙ ez in
         record {
           wrote = record { done = λ d f g. sym (turn-left d f g ∙ ap (λ (x : Forest). emits (parse-constraint-list src x) (state r d f g v)) e) };
-          few = wider-few r (i + taken (c .at)) (stop src at) (omega (arith, past-from constraint src (i + taken (c .at)), w .ends)) turn-few
+          few = wider-few r (i + taken (c .at)) (stop src at) (omega (arith, past-from constraint src (i + taken (c .at)), w .ends)) turn-few;
         }
 
     pub turn-more : (k : ℕ) {e : ℕ} {p : SourceLocation} {x : ConstraintMatch} → k ≡ taken (c .at)
@@ -122,7 +122,7 @@ module _ {src : List ℕ} {at : ℕ} {n : Walk} {t : List ℕ} {i : ℕ} {q : So
           hits = h .hits;
           drawn = h .drawn;
           ends = sym (h .ends) ∙ w .ends;
-          left = λ d f g. turn-left d f g ∙ ap (λ (y : Forest). emits (parse-constraint-list src y) (state r d f g v)) (h .nodes-are)
+          left = λ d f g. turn-left d f g ∙ ap (λ (y : Forest). emits (parse-constraint-list src y) (state r d f g v)) (h .nodes-are);
         }
 
 pub turn-start : {src : List ℕ} {at : ℕ} {p : SourceLocation} {n : Walk} {t : List ℕ} {c : ConstraintMatch}
@@ -140,7 +140,7 @@ turn-start {src} {at} {p} {n} {t} {c} w dr =
       ends = ap (λ (k : ℕ). past constraint src (at + k)) (sym e);
       left = λ x y z.
           ap (λ (v : Forest). emits (parse-constraint-list src v) (state n x y z t))
-          (first-item constraint src at (w .hits) ∙ ap₂ (λ (v : Forest) (k : ℕ). v ⊕ rest constraint src (at + k)) (d .draws h at) e)
+          (first-item constraint src at (w .hits) ∙ ap₂ (λ (v : Forest) (k : ℕ). v ⊕ rest constraint src (at + k)) (d .draws h at) e);
     }
 
 -- ---- the next constraint
@@ -150,7 +150,7 @@ next-some {src} {j} {k} {x} n w hk en ex h f d =
     let e : x .at ≡ j + taken k = ex ∙ ap (λ (i : ℕ). j + i) en in
     record {
       none = λ z. none-item constraint src j k w hk (x .at) (x .item .at) e h (sym f ∙ z) (d .reads);
-      more = λ z. found constraint src j k w hk (x .at) (x .item .at) _ e h (sym f ∙ z) d
+      more = λ z. found constraint src j k w hk (x .at) (x .item .at) _ e h (sym f ∙ z) d;
     }
 
 pub next-none : {src : List ℕ} {j : ℕ} {k : Match} {x : Next} → j ≤ length src → Reads comma (take (length src - j) (drop j src)) k → hit k ≡ false → x .found ≡ false → Nexts src j x

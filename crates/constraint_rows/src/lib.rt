@@ -28,7 +28,14 @@ pub fn row_of(s: &[u8], at: usize, p: SourceLocation, c: Constraint, v: Number) 
 }
 
 // One constraint: its number is noted, its row is written.
-pub fn put_one(s: &[u8], at: usize, p: SourceLocation, c: Constraint, n: Walk, t: &mut [u64]) -> Walk
+pub fn put_one(
+    s: &[u8],
+    at: usize,
+    p: SourceLocation,
+    c: Constraint,
+    n: Walk,
+    t: &mut [u64],
+) -> Walk
     requires { ⌜ Ready (now s) at p c n ⌝ }
     ensures { λ r. ⌜ WroteConstraints (itemsOf (now (s .entry)) at c) n r (now (t .entry)) (now (t .exit)) ⌝ }
 {
@@ -84,8 +91,7 @@ pub fn put_list(s: &[u8], at: usize, p: SourceLocation, n: Walk, t: &mut [u64]) 
         let end = c.at;
         let x = next_one(s, i + grammar::taken(end));
         let more = x.found;
-        if more {
-        } else {
+        if more {} else {
             return m;
         }
         i = x.at;

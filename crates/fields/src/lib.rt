@@ -1,6 +1,7 @@
 // Fields: a field's description with its condition, and lists of fields.
 pub mod kinds;
 pub mod parts;
+
 ghost use mathlib.Core.Path.{_≡_};
 ghost use Rattle.meaning.specs.Choice.{pick};
 ghost use Rattle.meaning.specs.Peg.{seq, star, hit, taken};
@@ -10,9 +11,6 @@ ghost use Rattle.grammar.specs.Drawing.{Draws};
 ghost use Rattle.spans.specs.Drawn.{drawDesc, drawField};
 ghost use Rattle.fields.specs.Kinds.{word-fields, fieldOf, OrDesc};
 ghost use Rattle.fields.specs.Kept.{absentConstraint};
-use constraints::then_constraint;
-use grammar::joined;
-use grammar::settle;
 use crate::kinds::array_field;
 use crate::kinds::body_field;
 use crate::kinds::checksum_field;
@@ -26,6 +24,9 @@ use crate::kinds::reserved_field;
 use crate::kinds::scalar_field;
 use crate::kinds::size_field;
 use crate::kinds::typedef_field;
+use constraints::then_constraint;
+use grammar::joined;
+use grammar::settle;
 use lexis::blanks::then_blanks;
 use lexis::blanks::then_last_comma;
 use lexis::texts::literal;

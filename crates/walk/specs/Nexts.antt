@@ -61,7 +61,7 @@ module _ (x : Peg) (src : List ℕ) (j : ℕ) (k : Match) (within : j ≤ length
             ∙ ap₂ _⊕_
             (ap (λ (i : ℕ). nodes (bytewise x) i (drop i src)) (sym q) ∙ dd .draws hd e)
             (ap (λ (i : ℕ). rest x src (i + taken d)) (sym q));
-        ends = next-past x src j k d (at j src hk) (there dk) hh hd ∙ ap (λ (i : ℕ). past x src (i + taken d)) (sym q)
+        ends = next-past x src j k d (at j src hk) (there dk) hh hd ∙ ap (λ (i : ℕ). past x src (i + taken d)) (sym q);
       }
 
   pub none-comma : hit k ≡ false → rest x src j ≡ nil

@@ -50,7 +50,7 @@ noted-few p r k n h =
       declarations = omega (arith, noted-counts Table.declarations p r n, h .declarations);
       fields = omega (arith, noted-counts Table.fields p r n, h .fields);
       tags = omega (arith, noted-counts Table.tags p r n, h .tags);
-      constraints = omega (arith, noted-counts Table.constraints p r n, h .constraints)
+      constraints = omega (arith, noted-counts Table.constraints p r n, h .constraints);
     }
 
 pub wider-few : (n : Walk) (j k : ℕ) → j ≤ k → Few n j → Few n k

@@ -8,9 +8,9 @@ ghost use Rattle.grammar.specs.Matching.{Reads};
 ghost use Rattle.walk.specs.Turns.{comma};
 ghost use Rattle.walk.specs.State.{noted, WroteTags, WroteConstraints, PutField};
 ghost use Rattle.walk.specs.Said.{numberAt, noNumber, tokenNumber, noName, spanName, identifierName, fieldName, modifierName, Inside, InsideToken, tagWords, constraintKind, constraintWords, fieldWords, declarationWords};
-use meaning::Converted;
 use lexis::blanks::then_blanks;
 use lexis::texts::then_literal;
+use meaning::Converted;
 use meaning::Match;
 use meaning::SourceLocation;
 use spans::Span;
@@ -186,7 +186,15 @@ pub fn note(n: Walk, x: Number) -> Walk
 }
 
 // A tag's row.
-pub fn tag_row(kind: u64, p: SourceLocation, q: SourceLocation, id: Name, v: Number, e: Number, inner: usize) -> [u64; 12]
+pub fn tag_row(
+    kind: u64,
+    p: SourceLocation,
+    q: SourceLocation,
+    id: Name,
+    v: Number,
+    e: Number,
+    inner: usize,
+) -> [u64; 12]
     ensures { λ r. ⌜ r ≡ tagWords kind p q id v e inner ⌝ }
 {
     [
@@ -206,7 +214,14 @@ pub fn tag_row(kind: u64, p: SourceLocation, q: SourceLocation, id: Name, v: Num
 }
 
 // A constraint's row.
-pub fn constraint_row(kind: u64, p: SourceLocation, q: SourceLocation, id: Name, tag: Name, v: Number) -> [u64; 12]
+pub fn constraint_row(
+    kind: u64,
+    p: SourceLocation,
+    q: SourceLocation,
+    id: Name,
+    tag: Name,
+    v: Number,
+) -> [u64; 12]
     ensures { λ r. ⌜ r ≡ constraintWords kind p q id tag v ⌝ }
 {
     [
@@ -236,7 +251,14 @@ pub struct Described {
 }
 
 // A field's row.
-pub fn field_row(d: Described, p: SourceLocation, q: SourceLocation, first: usize, count: usize, cond: usize) -> [u64; 20]
+pub fn field_row(
+    d: Described,
+    p: SourceLocation,
+    q: SourceLocation,
+    first: usize,
+    count: usize,
+    cond: usize,
+) -> [u64; 20]
     ensures { λ r. ⌜ r ≡ fieldWords (d .kind) p q (d .a) (d .b) (d .c) (d .na) (d .nb) first count cond ⌝ }
 {
     [

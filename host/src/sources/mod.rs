@@ -2,6 +2,7 @@
 
 mod damaged;
 mod long;
+mod parts;
 mod rng;
 mod short;
 mod valid;
@@ -9,6 +10,7 @@ mod writer;
 
 pub use damaged::damaged;
 pub use long::{declarations, padded};
+pub use parts::cuts;
 pub use rng::Rng;
 pub use short::{Frame, FRAMES};
 pub use valid::valid;

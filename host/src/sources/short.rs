@@ -58,20 +58,25 @@ pub const FRAMES: &[Frame] = &[
 impl Frame {
     /// The sources of this frame, the shortest texts first.
     pub fn sources(&self) -> impl Iterator<Item = String> + '_ {
-        (0..=self.longest)
+        self.texts(self.longest).map(|text| [self.before, &text, self.after].concat())
+    }
+
+    /// The texts alone, of so many letters at most.
+    pub fn texts(&self, longest: u32) -> impl Iterator<Item = String> + '_ {
+        (0..=longest)
             .flat_map(|length| {
                 (0..self.letters.len().pow(length)).map(move |index| (length, index))
             })
-            .map(|(length, index)| self.source(length, index))
+            .map(|(length, index)| self.text(length, index))
     }
 
-    /// The source whose text has as letters the digits of a number in the alphabet's base.
-    fn source(&self, length: u32, mut index: usize) -> String {
-        let mut source = self.before.to_owned();
+    /// The text that has as letters the digits of a number in the alphabet's base.
+    fn text(&self, length: u32, mut index: usize) -> String {
+        let mut text = String::new();
         for _ in 0..length {
-            source += self.letters[index % self.letters.len()];
+            text += self.letters[index % self.letters.len()];
             index /= self.letters.len();
         }
-        source + self.after
+        text
     }
 }

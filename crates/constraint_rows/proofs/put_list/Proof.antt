@@ -57,7 +57,7 @@ loop-again c =
     let b = n .before .before .before .before in
     let l = b .before .before .before in (
       b .put-one .kept .1 .1 .1 .1 .1 .0 ∙ l .loop .inv .0,
-      turn-more (l .loop .inv .1) (b .put-one .ensures) _ (n .before .taken .ensures) (n .next-one .ensures .more (c .before .before .if1 .taken)) (c .before .move-to .ensures)
+      turn-more (l .loop .inv .1) (b .put-one .ensures) _ (n .before .taken .ensures) (n .next-one .ensures .more (c .before .before .if1 .taken)) (c .before .move-to .ensures),
     )
 
 pub put-list-spec : {M : Type 1} → statement M

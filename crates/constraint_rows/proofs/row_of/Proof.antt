@@ -9,7 +9,7 @@ use Rattle.constraint_rows.proofs.row_of.Statement.{statement}
 use Rattle.constraint_rows.proofs.row_of.Tie as tie
 
 move-to-requires : tie.Need-move-to-requires
-move-to-requires c κs = 
+move-to-requires c κs =
     let b = c .before .before .before in
     let h = b .pre in
     ready (now (b .args .s)) (b .args .at) (b .args .at + b .args .c .span .start) (b .args .p) (h .here) (omega arith) (omega (arith, h .inside .span, h .within))

@@ -1,10 +1,10 @@
 //! What holds of every alignment, call by call and fed from the rows of a reading.
 
-use crate::tally::Seen;
 use host::aligner::{Aligner, Call, Room, State};
 use host::layout::{feed, Layout};
 use host::reading::{Reading, Refusal, DECLARATIONS, FIELDS};
 use host::sources::Rng;
+use host::tally::Seen;
 
 /// Under these names the refusals of layouts and calls are counted.
 pub const LAYOUT: &str = "layout";

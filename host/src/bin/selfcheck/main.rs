@@ -2,7 +2,6 @@
 
 mod aligning;
 mod reading;
-mod tally;
 
 use aligning::{CALL, DAMAGED, LAYOUT};
 use host::aligner::{Aligner, Call, Room};
@@ -12,9 +11,9 @@ use host::integer::convert;
 use host::print;
 use host::reading::Refusal;
 use host::sources::{self, Rng, FRAMES};
+use host::tally::{Seen, Tally};
 use reading::{ANSWER, CONDITIONAL, KINDS, TEST};
 use std::process::ExitCode;
-use tally::{Seen, Tally};
 
 const SEED: u64 = 1;
 

@@ -1,10 +1,10 @@
 //! What holds of every answer to a source, whatever the source.
 
 use crate::aligning;
-use crate::tally::Seen;
 use host::answer::{fit, read, write, Limits};
 use host::parser::{PDLParser, Rule};
 use host::reading::{Reading, Refusal, FIELDS, ROW_WORDS};
+use host::tally::Seen;
 use pest::Parser;
 
 /// Under this name the refusals of sources are counted, 0 for those that are accepted.

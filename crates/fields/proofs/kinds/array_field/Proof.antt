@@ -31,9 +31,9 @@ returns c =
     (then (gap (d .then-blanks2 .ensures)) (maybe (d .then-blanks2 .ensures .fits) (x .then-size .ensures) (c .before .before .before .before .settle .ensures .is))))
     (mark (c .before .before .next-literal3 .ensures))))
     (λ h o.
-      rw (c .before .between .ensures, c .kept-token .ensures)
-      (ap (λ (v : Forest). leafAt Rule.identifier o (spanOf (Took 0 0) (a .then-identifier .result)) ⊕ v)
-      (spread (drawElement o (e .then-element .result .element)) _ _ (token-kept (hit (x .then-size .result .at)) o (x .then-size .result .token))))))
+    rw (c .before .between .ensures, c .kept-token .ensures)
+    (ap (λ (v : Forest). leafAt Rule.identifier o (spanOf (Took 0 0) (a .then-identifier .result)) ⊕ v)
+    (spread (drawElement o (e .then-element .result .element)) _ _ (token-kept (hit (x .then-size .result .at)) o (x .then-size .result .token))))))
 
 pub array-field-spec : {M : Type 1} → statement M
 array-field-spec =

@@ -1,0 +1,14 @@
+-- `pdl_add_bitfield` meets its contract: the aligner's call on the state that the words say.
+use Rattle.meaning.specs.Alignment.{add-bitfield}
+use Rattle.front.proofs.Laws.{called-on}
+use borrow.Author.Needs.{needs}
+use Rattle.front.proofs.aligning.pdl_add_bitfield.Statement.{statement}
+use Rattle.front.proofs.aligning.pdl_add_bitfield.Tie as tie
+
+returns : tie.Need-returns
+returns c = called-on (add-bitfield _ _) _ _ _ _ _ _ _ _ (c .before .before .before .before .before .before .before .before .before .state-of .ensures) (c .before .before .before .before .before .before .add-bitfield .ensures) (c .words-of .ensures)
+
+pub pdl-add-bitfield-spec : {M : Type 1} → statement M
+pdl-add-bitfield-spec =
+    tie.close
+    (tie.spec (λ c κs. search needs) (λ c κs. search needs) (λ c κs. search needs) (λ c. search needs) (λ c. search needs) returns)

@@ -1,0 +1,13 @@
+-- `at_end` meets its contract: only the empty text is at its end.
+use Rattle.front.proofs.MatchLaws.{end-here, end-later}
+use Rattle.front.proofs.matching.at_end.Statement.{statement}
+use Rattle.front.proofs.matching.at_end.Tie as tie
+
+returns : tie.Need-returns
+returns c = end-here _ (c .if1 .taken)
+
+returns-2 : tie.Need-returns-2
+returns-2 c = end-later _ (c .if1 .left)
+
+pub at-end-spec : {M : Type 1} → statement M
+at-end-spec = tie.close (tie.spec returns returns-2)

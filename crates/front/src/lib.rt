@@ -1,0 +1,5 @@
+// The entries for a Rust host: each calls one function of the port, and its statement cites the same definition.
+pub mod aligning;
+pub mod feeding;
+pub mod matching;
+pub mod texts;

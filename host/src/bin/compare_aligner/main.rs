@@ -1,0 +1,88 @@
+//! Compares the port's aligner and its feeding with the oracle: every answer, every word of the
+//! state and every word of the tables.
+
+mod calls;
+mod feedings;
+mod readings;
+mod tables;
+
+use calls::{CALL, END, STATE, WRAPPED};
+use feedings::{DAMAGED, WHOLE};
+use host::sources::Rng;
+use host::tally::{Seen, Tally};
+use std::process::ExitCode;
+
+const SEED: u64 = 11;
+
+/// How many sequences of calls, and how many sources, are made unless `--count` says otherwise.
+const USUAL_COUNT: usize = 12_000;
+
+/// How many sequences and feedings a usual run has to compare.
+const LEAST: u64 = 200_000;
+
+fn main() -> ExitCode {
+    let arguments: Vec<String> = std::env::args().skip(1).collect();
+    let count = match &arguments[..] {
+        [] => Some(USUAL_COUNT),
+        [flag, count] if flag == "--count" => count.parse().ok(),
+        _ => None,
+    };
+    let Some(count) = count else {
+        eprintln!("usage: compare_aligner [--count sequences]");
+        return ExitCode::from(2);
+    };
+    let mut tally = Tally::default();
+    readings::check(&mut tally);
+    states(count, &mut tally);
+    let before = tally.passed;
+    sequences(count, &mut tally);
+    feedings(count, &mut tally);
+    let compared = tally.passed - before;
+    println!("{compared} sequences and feedings are the same");
+    tally.check(|| assert!(compared >= LEAST || count < USUAL_COUNT, "not {LEAST} compared"));
+    println!("{} passed, {} failed", tally.passed, tally.failed);
+    ExitCode::from(u8::from(tally.failed > 0))
+}
+
+/// Sequences of calls, each made over tables of every size around what it needs.
+fn sequences(count: usize, tally: &mut Tally) {
+    let mut rng = Rng::new(SEED);
+    let mut seen = Seen::default();
+    for _ in 0..count {
+        let calls = calls::any(&mut rng);
+        for words in tables::around(calls::need(&calls)) {
+            tally.check(|| calls::compare(&calls, words, &mut seen));
+        }
+    }
+    tally.check(|| {
+        seen.require(CALL, [0, 10, 11, 12, 13], count);
+        seen.require(END, [0, 16], count);
+        seen.require(WRAPPED, [12], count / 2);
+    });
+    seen.print("sequences");
+}
+
+/// States of any words, on which every call is refused or goes on as 01 says.
+fn states(count: usize, tally: &mut Tally) {
+    let mut rng = Rng::new(SEED + 1);
+    let mut seen = Seen::default();
+    for _ in 0..count * 4 {
+        tally.check(|| calls::compare_state(&mut rng, &mut seen));
+    }
+    tally.check(|| seen.require(STATE, [0, 10, 11, 12, 13, 16, 18], count / 16));
+    seen.print("states");
+}
+
+/// Rows that the oracle makes of sources, whole and damaged.
+fn feedings(count: usize, tally: &mut Tally) {
+    let mut rng = Rng::new(SEED + 2);
+    let mut seen = Seen::default();
+    for _ in 0..count {
+        feedings::compare(&mut rng, tally, &mut seen);
+    }
+    tally.check(|| {
+        seen.require(WHOLE, [0, 10, 12, 13, 14, 15, 16], count / 20);
+        seen.require(DAMAGED, [0, 10, 12, 13, 14, 15, 16, 17], count / 20);
+    });
+    seen.print("feedings");
+}

@@ -1,0 +1,94 @@
+//! Compares the port's matcher of every rule with pest's on parts of sources, and its UTF-8 test
+//! and converter with the oracle's.
+
+mod matchers;
+mod texts;
+
+use host::cases;
+use host::parser::Rule;
+use host::sources::{self, Rng, FRAMES};
+use host::tally::Tally;
+use matchers::{nodes, Matchers};
+use std::iter::repeat_n;
+use std::process::ExitCode;
+
+const SEED: u64 = 21;
+
+/// How many sources are cut into parts unless `--count` says otherwise.
+const USUAL_COUNT: usize = 800;
+
+/// The letters that a short text has at most: all such texts are tried.
+const SHORT: u32 = 3;
+
+fn main() -> ExitCode {
+    let arguments: Vec<String> = std::env::args().skip(1).collect();
+    let count = match &arguments[..] {
+        [] => Some(USUAL_COUNT),
+        [flag, count] if flag == "--count" => count.parse().ok(),
+        _ => None,
+    };
+    let Some(count) = count else {
+        eprintln!("usage: compare_matchers [--count sources]");
+        return ExitCode::from(2);
+    };
+    let mut tally = Tally::default();
+    let mut matchers = Matchers::new(&mut tally);
+    by_hand(&mut matchers);
+    generated(count, &mut matchers);
+    short(&mut matchers);
+    matchers.finish(count);
+    texts::check(count, &mut tally);
+    println!("{} passed, {} failed", tally.passed, tally.failed);
+    ExitCode::from(u8::from(tally.failed > 0))
+}
+
+/// The sources by hand, whole and cut at every token.
+fn by_hand(matchers: &mut Matchers) {
+    let mut rng = Rng::new(SEED);
+    for source in cases::sources().iter().filter(|source| source.len() < 1000) {
+        if let Ok(source) = std::str::from_utf8(source) {
+            matchers.part(source);
+            for part in sources::cuts(&mut rng, source) {
+                matchers.part(part);
+            }
+        }
+    }
+    matchers.print("by hand");
+}
+
+/// Sources by chance: cut at every token, each node alone, and damaged copies of both.
+fn generated(count: usize, matchers: &mut Matchers) {
+    let mut rng = Rng::new(SEED + 1);
+    for _ in 0..count {
+        let source = sources::valid(&mut rng);
+        matchers.part(&source);
+        let nodes = nodes(&source);
+        for (rule, part) in &nodes {
+            matchers.node(*rule, part);
+        }
+        let cuts = sources::cuts(&mut rng, &source);
+        for part in &cuts {
+            matchers.part(part);
+        }
+        // A token alone is damaged once, what is made of several more often.
+        let several = |rule: Rule| rule as usize > Rule::TEST as usize;
+        let copies = |(rule, part)| repeat_n(part, if several(rule) { 4 } else { 1 });
+        for part in cuts.into_iter().chain(nodes.into_iter().flat_map(copies)) {
+            let copy = sources::damaged(&mut rng, part.as_bytes(), source.as_bytes());
+            if let Ok(copy) = std::str::from_utf8(&copy) {
+                matchers.part(copy);
+            }
+        }
+    }
+    matchers.print("generated");
+}
+
+/// Every short text over small alphabets.
+fn short(matchers: &mut Matchers) {
+    for frame in FRAMES {
+        for text in frame.texts(SHORT) {
+            matchers.part(&text);
+        }
+    }
+    matchers.print("short");
+}

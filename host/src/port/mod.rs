@@ -1,0 +1,10 @@
+//! The proved port, called through its `extern "C"` entries.
+
+mod aligner;
+mod entries;
+mod matcher;
+mod texts;
+
+pub use aligner::{lay_out, Aligner, Laid};
+pub use matcher::{extent, extent_of};
+pub use texts::{convert, valid_prefix};
