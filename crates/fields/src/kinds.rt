@@ -222,11 +222,11 @@ pub fn group_field(s: &[u8]) -> DescMatch
     let b = then_blanks(s, a);
     let c = then_blanks(s, then_literal(s, b, b"{"));
     let list = then_constraint_list(s, c);
-    let x = next_literal(s, settle(s, c, list), b"}");
-    let at = settle(s, b, x);
+    let braces = next_literal(s, settle(s, c, list), b"}");
+    let at = settle(s, b, braces);
     let span = kept_span(list, between(c, list));
     DescMatch {
         at,
-        desc: FieldDesc::Group(between(start, a), kept_span(x, span)),
+        desc: FieldDesc::Group(between(start, a), kept_span(braces, span)),
     }
 }
