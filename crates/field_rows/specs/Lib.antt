@@ -1,0 +1,11 @@
+pub mod DescParts
+pub mod DescHeld
+pub mod Halves
+pub mod Counts
+pub mod Groups
+pub mod Items
+pub mod Fields
+pub mod FieldLaws
+pub mod OneField
+pub mod Lists
+pub mod ListLaws
