@@ -2,6 +2,22 @@
 
 use std::collections::BTreeMap;
 use std::panic::{self, AssertUnwindSafe};
+use std::process::ExitCode;
+
+/// The number behind `--count`, or the usual one. Tells how the program is used where the words
+/// are others, and gives the exit status for that.
+pub fn count_asked(usual: usize) -> Result<usize, ExitCode> {
+    let arguments: Vec<String> = std::env::args().collect();
+    let count = match &arguments[1..] {
+        [] => Some(usual),
+        [flag, count] if flag == "--count" => count.parse().ok(),
+        _ => None,
+    };
+    count.ok_or_else(|| {
+        eprintln!("usage: {} [--count number]", arguments[0]);
+        ExitCode::from(2)
+    })
+}
 
 /// Checks that passed and checks that failed.
 #[derive(Default)]
@@ -17,6 +33,12 @@ impl Tally {
             Ok(()) => self.passed += 1,
             Err(_) => self.failed += 1,
         }
+    }
+
+    /// The last line of a run, and its exit status.
+    pub fn verdict(&self) -> ExitCode {
+        println!("{} passed, {} failed", self.passed, self.failed);
+        ExitCode::from(u8::from(self.failed > 0))
     }
 }
 

@@ -9,7 +9,7 @@ mod tables;
 use calls::{CALL, END, STATE, WRAPPED};
 use feedings::{DAMAGED, WHOLE};
 use host::sources::Rng;
-use host::tally::{Seen, Tally};
+use host::tally::{count_asked, Seen, Tally};
 use std::process::ExitCode;
 
 const SEED: u64 = 11;
@@ -21,15 +21,9 @@ const USUAL_COUNT: usize = 12_000;
 const LEAST: u64 = 200_000;
 
 fn main() -> ExitCode {
-    let arguments: Vec<String> = std::env::args().skip(1).collect();
-    let count = match &arguments[..] {
-        [] => Some(USUAL_COUNT),
-        [flag, count] if flag == "--count" => count.parse().ok(),
-        _ => None,
-    };
-    let Some(count) = count else {
-        eprintln!("usage: compare_aligner [--count sequences]");
-        return ExitCode::from(2);
+    let count = match count_asked(USUAL_COUNT) {
+        Ok(count) => count,
+        Err(usage) => return usage,
     };
     let mut tally = Tally::default();
     readings::check(&mut tally);
@@ -40,8 +34,7 @@ fn main() -> ExitCode {
     let compared = tally.passed - before;
     println!("{compared} sequences and feedings are the same");
     tally.check(|| assert!(compared >= LEAST || count < USUAL_COUNT, "not {LEAST} compared"));
-    println!("{} passed, {} failed", tally.passed, tally.failed);
-    ExitCode::from(u8::from(tally.failed > 0))
+    tally.verdict()
 }
 
 /// Sequences of calls, each made over tables of every size around what it needs.

@@ -7,7 +7,7 @@ mod texts;
 use host::cases;
 use host::parser::Rule;
 use host::sources::{self, Rng, FRAMES};
-use host::tally::Tally;
+use host::tally::{count_asked, Tally};
 use matchers::{nodes, Matchers};
 use std::iter::repeat_n;
 use std::process::ExitCode;
@@ -21,15 +21,9 @@ const USUAL_COUNT: usize = 800;
 const SHORT: u32 = 3;
 
 fn main() -> ExitCode {
-    let arguments: Vec<String> = std::env::args().skip(1).collect();
-    let count = match &arguments[..] {
-        [] => Some(USUAL_COUNT),
-        [flag, count] if flag == "--count" => count.parse().ok(),
-        _ => None,
-    };
-    let Some(count) = count else {
-        eprintln!("usage: compare_matchers [--count sources]");
-        return ExitCode::from(2);
+    let count = match count_asked(USUAL_COUNT) {
+        Ok(count) => count,
+        Err(usage) => return usage,
     };
     let mut tally = Tally::default();
     let mut matchers = Matchers::new(&mut tally);
@@ -38,8 +32,7 @@ fn main() -> ExitCode {
     short(&mut matchers);
     matchers.finish(count);
     texts::check(count, &mut tally);
-    println!("{} passed, {} failed", tally.passed, tally.failed);
-    ExitCode::from(u8::from(tally.failed > 0))
+    tally.verdict()
 }
 
 /// The sources by hand, whole and cut at every token.

@@ -11,7 +11,7 @@ use host::integer::convert;
 use host::print;
 use host::reading::Refusal;
 use host::sources::{self, Rng, FRAMES};
-use host::tally::{Seen, Tally};
+use host::tally::{count_asked, Seen, Tally};
 use reading::{ANSWER, CONDITIONAL, KINDS, TEST};
 use std::process::ExitCode;
 
@@ -21,15 +21,9 @@ const SEED: u64 = 1;
 const USUAL_COUNT: usize = 60_000;
 
 fn main() -> ExitCode {
-    let arguments: Vec<String> = std::env::args().skip(1).collect();
-    let count = match &arguments[..] {
-        [] => Some(USUAL_COUNT),
-        [flag, count] if flag == "--count" => count.parse().ok(),
-        _ => None,
-    };
-    let Some(count) = count else {
-        eprintln!("usage: selfcheck [--count sources]");
-        return ExitCode::from(2);
+    let count = match count_asked(USUAL_COUNT) {
+        Ok(count) => count,
+        Err(usage) => return usage,
     };
     let mut run = Run::default();
     run.readings();
@@ -40,8 +34,7 @@ fn main() -> ExitCode {
     run.long(count / 200 + 100);
     run.alignments(count);
     run.constructs(count);
-    println!("{} passed, {} failed", run.tally.passed, run.tally.failed);
-    ExitCode::from(u8::from(run.tally.failed > 0))
+    run.tally.verdict()
 }
 
 #[derive(Default)]
