@@ -186,7 +186,8 @@ pub fn put_range(
     let q = text::move_to(s, p, at + len);
     let id = walk::span_name(at, x.id);
     let r = put_inner(s, at, p, len, x.tags, u, t);
-    let row = walk::tag_row(2, p, q, id, a, b, r.tags - u.tags);
+    let inner = r.tags - u.tags;
+    let row = walk::tag_row(2, p, q, id, a, b, inner);
     ast::put_row(t, m.tags, &row);
     r
 }

@@ -31,8 +31,8 @@ put-inner-requires c κs =
     let h = c .before .before .before .before .before .before .before .before .before .before .before .before .before .before .pre in
     range-inner h (note-few _ _ (n .note2 .ensures) (note-few _ _ (n .before .note .ensures) (h .few)))
 
-sub-tag-row : tie.Need-sub-tag-row
-sub-tag-row c = inner-more (c .before .before .before .before .before .before .before .before .before .before .before .before .before .before .before .before .before .before .before .pre) (c .before .before .before .before .put-inner .ensures)
+sub-inner : tie.Need-sub-inner
+sub-inner c = inner-more (c .before .before .before .before .before .before .before .before .before .before .before .before .before .before .before .before .before .before .before .pre) (c .before .before .before .before .put-inner .ensures)
 
 returns : tie.Need-returns
 returns c =
@@ -51,4 +51,4 @@ pub put-range-spec : {M : Type 1} → statement M
 put-range-spec =
     tie.close
     (tie.spec (λ c. search needs) (λ c κs. search needs) (λ c. search needs) (λ c κs. search needs) (λ c κs. search needs) (λ c κs. search needs)
-    add-move-to add-move-to-2 move-to-requires span-name-requires put-inner-requires sub-tag-row (λ c κs. search needs) (λ c. search needs) (λ c κs. search needs) (λ c. search needs) returns)
+    add-move-to add-move-to-2 move-to-requires span-name-requires put-inner-requires sub-inner (λ c κs. search needs) (λ c. search needs) (λ c κs. search needs) (λ c. search needs) returns)
