@@ -1,3 +1,5 @@
 pub mod Constraints
 pub mod Lists
 pub mod ListLaws
+pub mod Spanned
+pub mod SpanLaws

@@ -1,13 +1,15 @@
-// The rows of constraints: one constraint, and a list of them as the walk goes over it.
+// The rows of constraints: one constraint, a list of them as the walk goes over it, and the list that a span says.
 ghost use mathlib.Core.Path.{_≡_};
 ghost use Prim.Native.Nat.{_≤_};
 ghost use lib.ListN.{length};
 ghost use Rattle.walk.specs.State.{WroteConstraints};
 ghost use Rattle.constraint_rows.specs.Constraints.{Placed, Ready, rowWords};
 ghost use Rattle.constraint_rows.specs.Lists.{itemsOf, Nexts, Listed, WroteList};
+ghost use Rattle.constraint_rows.specs.Spanned.{listed, Spanned, WroteSpan};
 use meaning::SourceLocation;
 use spans::Constraint;
 use spans::ConstraintMatch;
+use spans::Span;
 use walk::Number;
 use walk::Walk;
 
@@ -98,4 +100,36 @@ pub fn put_list(s: &[u8], at: usize, p: SourceLocation, n: Walk, t: &mut [u64]) 
         q = text::move_to(s, q, i);
         c = x.item;
     }
+}
+
+// Whether constraints stand where a span of the text at `at` says.
+fn is_listed(s: &[u8], at: usize, g: Span) -> bool
+    requires { ⌜ at ≤ length (now s) ⌝ }
+    ensures { λ r. ⌜ r ≡ listed (now (s .entry)) at g ⌝ }
+{
+    let start = g.start;
+    if g.len == 0 {
+        return false;
+    }
+    if s.len() - at < start {
+        return false;
+    }
+    let j = at + start;
+    let c = constraints::constraint(&s[j..]);
+    let end = c.at;
+    grammar::took(end)
+}
+
+// The rows of the constraints that stand where a span of the text at `at` says, if any do.
+pub fn put_span(s: &[u8], at: usize, p: SourceLocation, g: Span, n: Walk, t: &mut [u64]) -> Walk
+    requires { ⌜ Spanned (now s) at p n ⌝ }
+    ensures { λ r. ⌜ WroteSpan (now (s .entry)) at g n r (now (t .entry)) (now (t .exit)) ⌝ }
+{
+    let there = is_listed(s, at, g);
+    if there {} else {
+        return n;
+    }
+    let j = at + g.start;
+    let q = text::move_to(s, p, j);
+    put_list(s, j, q, n, t)
 }

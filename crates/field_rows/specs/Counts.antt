@@ -1,4 +1,4 @@
--- How many constraints items add, and that a list of fields asks no more of the items before it.
+-- A list of fields asks no more of the items before it than how many constraints they add.
 use Prim.Native.Nat.{ℕ, zero, suc, _+_}
 use native.Mathlib.Omega.{arith}
 use mathlib.Core.Path.{_≡_, refl, ap, ap₂, sym, _∙_}
@@ -6,32 +6,9 @@ use mathlib.Core.List.{List, [], _∷_, _++_}
 use Rattle.meaning.specs.Choice.{pick}
 use Rattle.meaning.specs.Forest.{Forest, nil, tree}
 use Rattle.meaning.specs.Rules.{Rule}
-use Rattle.meaning.specs.Tables.{Table, Item, int, row, rowsOf, count, firstOf}
+use Rattle.meaning.specs.Tables.{Table, Item, row, rowsOf, count, firstOf}
 use Rattle.meaning.specs.Walk.{Part, node, part, following, place, name, optional, numbers, constraint-number, constraint-row, parse-constraint-list, Desc, described, parse-field, parse-field-list}
-use Rattle.walk.specs.State.{State, emit, emits}
-use Rattle.walk.specs.StateLaws.{noted-counts}
-
--- ---- counts
-pub count-append : (xs ys : List Item) → count Table.constraints (xs ++ ys) ≡ count Table.constraints xs + count Table.constraints ys
-unfolding rowsOf
-count-append [] ys = omega arith
-count-append (int p r ∷ xs) ys = count-append xs ys
-count-append (row Table.declarations ws ∷ xs) ys = count-append xs ys
-count-append (row Table.fields ws ∷ xs) ys = count-append xs ys
-count-append (row Table.tags ws ∷ xs) ys = count-append xs ys
-count-append (row Table.constraints ws ∷ xs) ys = omega (arith, count-append xs ys)
-count-append (row Table.comments ws ∷ xs) ys = count-append xs ys
-
--- what items add to the walk's count
-pub emits-count : (xs : List Item) (s : State) → emits xs s .n .constraints ≡ s .n .constraints + count Table.constraints xs
-unfolding emits rowsOf
-emits-count [] s = omega arith
-emits-count (int p r ∷ xs) s = omega (arith, emits-count xs (emit (int p r) s), noted-counts Table.constraints p r (s .n))
-emits-count (row Table.declarations ws ∷ xs) s = emits-count xs (emit (row Table.declarations ws) s)
-emits-count (row Table.fields ws ∷ xs) s = emits-count xs (emit (row Table.fields ws) s)
-emits-count (row Table.tags ws ∷ xs) s = emits-count xs (emit (row Table.tags ws) s)
-emits-count (row Table.constraints ws ∷ xs) s = omega (arith, emits-count xs (emit (row Table.constraints ws) s))
-emits-count (row Table.comments ws ∷ xs) s = emits-count xs s
+use Rattle.walk.specs.Counts.{count-append}
 
 -- some items with k constraints
 abbrev pub soFar : ℕ → List Item
@@ -70,4 +47,4 @@ same-list src xs ys (tree r s l k more) e =
     = field-by src xs s l k more ∙ ap (λ (n : ℕ). fieldBy src n (described k) (part Rule.constraint (following k)) s l) e ∙ sym (field-by src ys s l k more) in
     ap₂ _++_ f
     (same-list src (xs ++ parse-field src xs (node s l k more)) (ys ++ parse-field src ys (node s l k more)) more
-    (count-append xs (parse-field src xs (node s l k more)) ∙ ap₂ _+_ e (ap (count Table.constraints) f) ∙ sym (count-append ys (parse-field src ys (node s l k more)))))
+    (count-append Table.constraints xs (parse-field src xs (node s l k more)) ∙ ap₂ _+_ e (ap (count Table.constraints) f) ∙ sym (count-append Table.constraints ys (parse-field src ys (node s l k more)))))

@@ -4,12 +4,10 @@ use mathlib.Core.Path.{_≡_, refl}
 use mathlib.Core.List.{List, [], _∷_, _++_}
 use lib.Dec.{eqb}
 use Rattle.meaning.specs.Choice.{pick}
-use Rattle.meaning.specs.Rules.{Rule}
 use Rattle.meaning.specs.Forest.{Forest, _⊕_}
-use Rattle.meaning.specs.Pdl.{constraint-list}
 use Rattle.meaning.specs.Places.{placeAt}
 use Rattle.meaning.specs.Tables.{Item}
-use Rattle.meaning.specs.Walk.{part, place, name, optional, numbers, Desc, describe, described}
+use Rattle.meaning.specs.Walk.{place, name, optional, numbers, Desc, describe, described}
 use Rattle.spans.specs.declared.Span.{Span}
 use Rattle.spans.specs.declared.Token.{Token}
 use Rattle.spans.specs.declared.Token.the-variants.{Absent, Identifier, PayloadIdentifier, BodyIdentifier, Integer, Text, SizeModifier}
@@ -18,9 +16,10 @@ use Rattle.spans.specs.declared.Element.the-variants.{Width, Named}
 use Rattle.spans.specs.declared.FieldDesc.{FieldDesc}
 use Rattle.spans.specs.declared.FieldDesc.the-variants.{Checksum, Padding, Size, Count, ElementSize, Body, Payload, FixedScalar, FixedEnum, Reserved, Array, Scalar, Typedef, Group}
 use Rattle.spans.specs.Spans.{absentSpan}
-use Rattle.spans.specs.Drawn.{onlyName, listAt, drawDesc}
+use Rattle.spans.specs.Drawn.{onlyName, drawDesc}
 use Rattle.walk.specs.declared.Described.{Described}
 use Rattle.walk.specs.Said.{numberAt, tokenNumber, said, fieldName, identifierName, modifierName, fieldWords}
+use Rattle.constraint_rows.specs.Spanned.{spanNodes}
 use Rattle.field_rows.specs.declared.descs.Parts.{Parts}
 
 -- ---- the parts of a description: names a, b, c, numbers a, b; only a group has constraints
@@ -63,10 +62,6 @@ say src o p =
 abbrev pub saidNumbers : Described → List Item
 saidNumbers d = pick (eqb (d .kind) 8) (said (d .nb) ++ said (d .na)) (said (d .na) ++ said (d .nb))
 
--- the nodes of a group's constraints
-abbrev pub groupNodes : ℕ → List ℕ → Span → Forest
-groupNodes o t g = part Rule.constraint-list (listAt constraint-list o t g) .kids
-
 abbrev pub rowOf : Described → List ℕ → ℕ → ℕ → ℕ → ℕ → ℕ → List ℕ
 rowOf d src s l first n cond = fieldWords (d .kind) (placeAt src s) (placeAt src (s + l)) (d .a) (d .b) (d .c) (d .na) (d .nb) first n cond
 
@@ -80,7 +75,7 @@ pub record Says (src : List ℕ) (x : Described) (g : Forest) (d : Desc) : Type 
 
 module _ (src : List ℕ) (o : ℕ) (t : List ℕ) (n : ℕ) (more : Forest) where
   abbrev Told : FieldDesc → Type 0
-  Told f = Says src (say src o (partsOf f)) (groupNodes o t (partsOf f .group)) (described (drawDesc o t n f ⊕ more))
+  Told f = Says src (say src o (partsOf f)) (spanNodes o t (partsOf f .group)) (described (drawDesc o t n f ⊕ more))
 
   size-says : (id : Token) (width : Span) → Told (Size id width)
   unfolding describe numbers numberAt fieldWords

@@ -1,20 +1,16 @@
 -- The laws of one field's rows.
-use Prim.Native.Nat.{ℕ, zero, suc, _+_, _≤_, _<_}
+use Prim.Native.Nat.{ℕ, _<_}
 use native.Mathlib.Omega.{arith}
 use mathlib.Core.Path.{_≡_, refl, ap, sym, _∙_}
 use mathlib.Core.List.{List, [], _∷_, _++_}
 use mathlib.Core.Bool.{Bool, true, false}
-use lib.ListN.{length}
 use lib.Dec.{ltb, eqb}
 use borrow.Author.Tests.{lt-ltb, le-ltb}
-use Rattle.meaning.specs.declared.SourceLocation.{SourceLocation}
 use Rattle.meaning.specs.Choice.{pick}
 use Rattle.meaning.specs.Rules.{Rule, is}
 use Rattle.meaning.specs.Forest.{Forest, nil, tree}
-use Rattle.meaning.specs.Places.{placeAt}
-use Rattle.meaning.specs.Tables.{Table, Item, int, row, firstOf}
+use Rattle.meaning.specs.Tables.{Table, Item, int, row}
 use Rattle.meaning.specs.Walk.{Part, node, value-of, each, constraint-number, constraint-row, parse-constraint-list}
-use Rattle.spans.specs.declared.Span.{Span}
 use Rattle.spans.specs.declared.Token.{Token}
 use Rattle.spans.specs.declared.Token.the-variants.{Absent}
 use Rattle.spans.specs.declared.Constraint.{Constraint}
@@ -23,16 +19,14 @@ use Rattle.walk.specs.declared.Number.{Number}
 use Rattle.walk.specs.declared.Described.{Described}
 use Rattle.walk.specs.State.{State, state, noted, emits, with-constraint, with-field, Few, WroteConstraints, PutField}
 use Rattle.walk.specs.StateLaws.{emits-append, noted-counts}
-use Rattle.walk.specs.SaidLaws.{said-token, noted-few, wider-few}
+use Rattle.walk.specs.SaidLaws.{said-token, noted-few}
 use Rattle.walk.specs.Said.{said, tokenNumber}
 use Rattle.constraint_rows.specs.Constraints.{rowWords}
-use Rattle.constraint_rows.specs.Lists.{Listed, WroteList, stop}
 use Rattle.field_rows.specs.declared.descs.Parts.{Parts}
 use Rattle.field_rows.specs.DescParts.{say, saidNumbers}
 use Rattle.field_rows.specs.Counts.{shape}
-use Rattle.field_rows.specs.Groups.{listed, group-none, group-list, group-constrained, group-ends}
 use Rattle.field_rows.specs.Items.{condToken, condRows}
-use Rattle.field_rows.specs.Fields.{by, notedAll, Grouped, WroteGroup}
+use Rattle.field_rows.specs.Fields.{by, notedAll}
 
 -- ---- the items of a field, one part after another
 pub shape-emits : (a b g c : List Item) (ws : List ℕ) (s : State) → emits (shape a b g c ws) s ≡ emits (row Table.fields ws ∷ []) (emits c (emits g (emits (a ++ b) s)))
@@ -83,8 +77,7 @@ all-same A h v d n = go (eqb (d .kind) 8)
     go true = three (d .nb) (d .na)
     go false = three (d .na) (d .nb)
 
--- ---- a group's constraints
--- they add no field
+-- ---- a group's constraints add no field
 module _ (src : List ℕ) where
   number-fields : (b : Bool) (p r : ℕ) (s : State) → emits (pick b (int p r ∷ []) []) s .n .fields ≡ s .n .fields
   unfolding emits
@@ -106,25 +99,6 @@ module _ (src : List ℕ) where
       go : (b : Bool) → emits (pick b (constraint-number src (node a l k more) ++ constraint-row src (node a l k more)) []) s .n .fields ≡ s .n .fields
       go true = one-fields (node a l k more) s
       go false = refl
-
-module _ {src : List ℕ} {at : ℕ} {p : SourceLocation} {n : Walk} (w : Grouped src at p n) (g : Span) where
-  pub group-empty : (t : List ℕ) → listed src at g ≡ false → WroteGroup src at g n n t t
-  unfolding parse-constraint-list each emits
-  group-empty t h =
-      record {
-        wrote = record { done = λ d f x. ap (λ (v : Forest). emits (parse-constraint-list src v) (state n d f x t)) (sym (group-none src at g h)) };
-        few = λ lo hi e k. wider-few n at hi e (w .few);
-      }
-
-  pub group-ready : {q : SourceLocation} → listed src at g ≡ true → at + g .start ≤ length src → q ≡ placeAt src (at + g .start) → Listed src (at + g .start) q n
-  group-ready h e i = record { within = e; here = i; few = wider-few n at (at + g .start) (omega arith) (w .few); hits = group-constrained src at g h }
-
-  pub group-done : {r : Walk} {t u : List ℕ} → listed src at g ≡ true → WroteList src (at + g .start) n r t u → WroteGroup src at g n r t u
-  group-done {r} {t} {u} h k =
-      record {
-        wrote = record { done = λ d f x. k .wrote .done d f x ∙ ap (λ (v : Forest). emits (parse-constraint-list src v) (state n d f x t)) (sym (group-list src at g h)) };
-        few = λ lo hi e i. wider-few r (stop src (at + g .start)) hi (group-ends src at g lo hi h i) (k .few);
-      }
 
 -- ---- a condition
 module _ (src : List ℕ) (at : ℕ) (c : Constraint) where
@@ -157,8 +131,3 @@ module _ (src : List ℕ) (at : ℕ) (c : Constraint) where
 pub put-walk : {ws : List ℕ} {n r : Walk} {t u : List ℕ} → PutField ws n r t u → r ≡ with-field n
 unfolding emits
 put-walk h = ap (λ (s : State). s .n) (h .done [] [] [])
-
--- ---- words of its row
-pub first-some : (k n : ℕ) → (n ≡ 0 → ⊥) → k ≡ firstOf k n
-first-some k zero h = absurd (h refl)
-first-some k (suc n) h = refl

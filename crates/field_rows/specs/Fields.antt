@@ -8,23 +8,21 @@ use lib.Dec.{eqb}
 use Rattle.meaning.specs.declared.SourceLocation.{SourceLocation}
 use Rattle.meaning.specs.Choice.{pick}
 use Rattle.meaning.specs.Peg.{hit, taken}
-use Rattle.meaning.specs.Pdl.{constraint-list, field}
+use Rattle.meaning.specs.Pdl.{field}
 use Rattle.meaning.specs.Places.{placeAt}
 use Rattle.grammar.specs.Drawing.{Draws}
-use Rattle.spans.specs.declared.Span.{Span}
 use Rattle.spans.specs.declared.Constraint.{Constraint}
 use Rattle.spans.specs.declared.FieldMatch.{FieldMatch}
-use Rattle.spans.specs.Drawn.{listAt, drawField}
+use Rattle.spans.specs.Drawn.{drawField}
 use Rattle.walk.specs.declared.Walk.{Walk}
 use Rattle.walk.specs.declared.Number.{Number}
 use Rattle.walk.specs.declared.Described.{Described}
-use Rattle.walk.specs.State.{noted, Few, WroteConstraints, WroteFields}
+use Rattle.walk.specs.State.{noted, Few, WroteFields}
 use Rattle.walk.specs.Said.{tokenNumber}
-use Rattle.walk.specs.Held.{Held}
 use Rattle.walk.specs.Insides.{InsideConstraint}
 use Rattle.field_rows.specs.declared.Noted.{Noted}
 use Rattle.field_rows.specs.DescParts.{partsOf}
-use Rattle.field_rows.specs.Items.{condToken, groupItems, fieldSays, fieldItems}
+use Rattle.field_rows.specs.Items.{condToken, fieldSays, fieldItems}
 
 -- the state after a number
 abbrev pub by : Number → Walk → Walk
@@ -43,16 +41,6 @@ pub record NotedField (src : List ℕ) (at : ℕ) (f : FieldMatch) (n : Walk) (r
   pub number : r .number ≡ tokenNumber src at (condToken (f .cond))
   pub group : r .group ≡ partsOf (f .desc .desc) .group
   pub walk : r .walk ≡ notedAll (tokenNumber src at (condToken (f .cond))) (fieldSays src at f) n
-
--- a group's constraints: the walk has come to `at`
-pub record Grouped (src : List ℕ) (at : ℕ) (p : SourceLocation) (n : Walk) : Type 0 where
-  pub within : at ≤ length src
-  pub here : p ≡ placeAt src at
-  pub few : Few n at
-
-pub record WroteGroup (src : List ℕ) (at : ℕ) (g : Span) (n r : Walk) (t u : List ℕ) : Type 0 where
-  pub wrote : WroteConstraints (groupItems src at g) n r t u
-  pub few : (lo hi : ℕ) → at ≤ hi → Held lo hi (listAt constraint-list at (drop at src) g) → Few r hi
 
 -- a condition that may be missing, whose number is v
 pub record Conditioned (src : List ℕ) (at : ℕ) (p : SourceLocation) (c : Constraint) (v : Number) (n : Walk) : Type 0 where

@@ -11,19 +11,20 @@ use Rattle.meaning.specs.Peg.{taken}
 use Rattle.meaning.specs.Forest.{Forest, nil, _⊕_}
 use Rattle.meaning.specs.Tables.{Table, Item, row, count, firstOf}
 use Rattle.meaning.specs.Walk.{node, part, Desc, described, parse-constraint-list, parse-field, parse-field-list}
-use Rattle.spans.specs.declared.Span.{Span}
 use Rattle.spans.specs.declared.Token.{Token}
 use Rattle.spans.specs.declared.Token.the-variants.{Absent}
 use Rattle.spans.specs.declared.Constraint.{Constraint}
 use Rattle.spans.specs.declared.FieldMatch.{FieldMatch}
 use Rattle.spans.specs.Drawn.{drawConstraint, drawDesc, drawField}
 use Rattle.walk.specs.declared.Described.{Described}
+use Rattle.walk.specs.Counts.{count-append}
 use Rattle.walk.specs.Said.{said, tokenNumber}
 use Rattle.walk.specs.DrawnItems.{constraint-said, constraint-words}
 use Rattle.constraint_rows.specs.Constraints.{rowWords}
-use Rattle.field_rows.specs.DescParts.{partsOf, say, saidNumbers, groupNodes, rowOf, Says, says}
+use Rattle.constraint_rows.specs.Spanned.{spanNodes, spanItems}
+use Rattle.field_rows.specs.DescParts.{partsOf, say, saidNumbers, rowOf, Says, says}
 use Rattle.field_rows.specs.Halves.{following-desc}
-use Rattle.field_rows.specs.Counts.{count-append, soFar, soFar-count, shape, rows, fieldBy, field-by, same-list}
+use Rattle.field_rows.specs.Counts.{soFar, soFar-count, shape, rows, fieldBy, field-by, same-list}
 
 -- ---- the condition: its value's token, and its row
 abbrev pub condToken : Constraint → Token
@@ -32,16 +33,12 @@ condToken c = pick (ltb 0 (c .span .len)) (c .value) Absent
 abbrev pub condRows : List ℕ → ℕ → Constraint → List Item
 condRows src o c = pick (ltb 0 (c .span .len)) (row Table.constraints (rowWords src o c) ∷ []) []
 
--- ---- a group's constraints
-abbrev pub groupItems : List ℕ → ℕ → Span → List Item
-groupItems src o g = parse-constraint-list src (groupNodes o (drop o src) g)
-
 -- ---- the whole field; k constraints stand before it
 abbrev pub fieldSays : List ℕ → ℕ → FieldMatch → Described
 fieldSays src o f = say src o (partsOf (f .desc .desc))
 
 abbrev pub fieldGroup : List ℕ → ℕ → FieldMatch → List Item
-fieldGroup src o f = groupItems src o (partsOf (f .desc .desc) .group)
+fieldGroup src o f = spanItems src o (partsOf (f .desc .desc) .group)
 
 abbrev pub fieldCount : List ℕ → ℕ → FieldMatch → ℕ
 fieldCount src o f = count Table.constraints (fieldGroup src o f)
@@ -90,7 +87,7 @@ module _ (src : List ℕ) (o : ℕ) (f : FieldMatch) where
       field-by src xs o (taken (f .at)) kids more
       ∙ ap (λ (v : Forest). fieldBy src (count Table.constraints xs) (described kids) (part Rule.constraint v) o (taken (f .at)))
       (following-desc o (drop o src) (taken (f .desc .at)) (f .desc .desc) condition)
-      ∙ said-by src o (count Table.constraints xs) o (taken (f .at)) (f .cond) (described kids) (fieldSays src o f) (groupNodes o (drop o src) (partsOf (f .desc .desc) .group))
+      ∙ said-by src o (count Table.constraints xs) o (taken (f .at)) (f .cond) (described kids) (fieldSays src o f) (spanNodes o (drop o src) (partsOf (f .desc .desc) .group))
       (says src o (drop o src) (taken (f .desc .at)) condition (f .desc .desc)) (ltb 0 (f .cond .span .len))
 
   -- a list that starts with this field, where k constraints stand before it
@@ -102,6 +99,6 @@ module _ (src : List ℕ) (o : ℕ) (f : FieldMatch) where
       = field-items (soFar k) w ∙ ap (λ (n : ℕ). fieldItems src n o f) (soFar-count k) in
       ap₂ (λ (xs ys : List Item). xs ++ ys) e
       (same-list src (soFar k ++ parse-field src (soFar k) (node o (taken (f .at)) kids w)) (soFar (k + count Table.constraints (fieldItems src k o f))) w
-      (count-append (soFar k) (parse-field src (soFar k) (node o (taken (f .at)) kids w))
+      (count-append Table.constraints (soFar k) (parse-field src (soFar k) (node o (taken (f .at)) kids w))
       ∙ ap₂ _+_ (soFar-count k) (ap (count Table.constraints) e)
       ∙ sym (soFar-count (k + count Table.constraints (fieldItems src k o f)))))

@@ -2,7 +2,6 @@ pub mod DescParts
 pub mod DescHeld
 pub mod Halves
 pub mod Counts
-pub mod Groups
 pub mod Items
 pub mod Fields
 pub mod FieldLaws

@@ -21,12 +21,13 @@ use Rattle.spans.specs.Drawn.{drawField}
 use Rattle.walk.specs.declared.Walk.{Walk}
 use Rattle.walk.specs.State.{State, state, emits}
 use Rattle.walk.specs.StateLaws.{emits-append}
+use Rattle.walk.specs.Counts.{grown}
 use Rattle.walk.specs.SaidLaws.{wider-few}
 use Rattle.walk.specs.Insides.{took-inside}
 use Rattle.walk.specs.Turns.{comma, rest, past, past-from, first-item}
 use Rattle.walk.specs.Nexts.{FoundAt, found, none-comma, none-item}
 use Rattle.field_rows.specs.declared.Next.{Next}
-use Rattle.field_rows.specs.Counts.{emits-count, soFar, soFar-count, same-list}
+use Rattle.field_rows.specs.Counts.{soFar, soFar-count, same-list}
 use Rattle.field_rows.specs.Items.{fieldItems, one-field}
 use Rattle.field_rows.specs.Fields.{Ready, WroteField}
 use Rattle.field_rows.specs.Lists.{listNodes, Nexts, Listed, stop, WroteList, Turning}
@@ -41,7 +42,7 @@ module _ {src : List ℕ} {at : ℕ} {n : Walk} {f c : List ℕ} {i : ℕ} {q : 
 
   module _ {r : Walk} {u v : List ℕ} (one : WroteField src i x m r f' u c' v) where
     turn-count : r .constraints ≡ m .constraints + count Table.constraints (fieldItems src (m .constraints) i x)
-    turn-count = ap (λ (s : State). s .n .constraints) (one .wrote .done [] []) ∙ emits-count (fieldItems src (m .constraints) i x) (state m [] f' [] c')
+    turn-count = ap (λ (s : State). s .n .constraints) (one .wrote .done [] []) ∙ grown (fieldItems src (m .constraints) i x) (state m [] f' [] c') .constraints
 
     turn-left : (d t : List ℕ) → emits (parse-field-list src (soFar (n .constraints)) (listNodes src at)) (state n d f t c)
         ≡ emits (parse-field-list src (soFar (r .constraints)) (rest field src (i + taken (x .at)))) (state r d u t v)

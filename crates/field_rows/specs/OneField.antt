@@ -25,18 +25,19 @@ use Rattle.walk.specs.declared.Number.{Number}
 use Rattle.walk.specs.declared.Described.{Described}
 use Rattle.walk.specs.State.{State, state, emits, with-constraint, Few, WroteConstraints, PutField}
 use Rattle.walk.specs.StateLaws.{noted-counts}
+use Rattle.walk.specs.Counts.{grown}
 use Rattle.walk.specs.SaidLaws.{wider-few}
 use Rattle.walk.specs.Said.{said, tokenNumber, InsideToken}
 use Rattle.walk.specs.Held.{Held}
 use Rattle.walk.specs.Insides.{held, held-right, constraint-inside, took-inside, InsideConstraint}
+use Rattle.constraint_rows.specs.Spanned.{spanItems, Spanned, WroteSpan}
 use Rattle.field_rows.specs.declared.descs.Parts.{Parts}
 use Rattle.field_rows.specs.declared.Noted.{Noted}
 use Rattle.field_rows.specs.DescParts.{partsOf, say, saidNumbers, rowOf}
 use Rattle.field_rows.specs.DescHeld.{InsideParts, wider-parts, parts-inside, group-held}
 use Rattle.field_rows.specs.Halves.{halves}
-use Rattle.field_rows.specs.Counts.{emits-count}
-use Rattle.field_rows.specs.Items.{condToken, condRows, groupItems, fieldSays, fieldGroup, fieldCount, fieldRow, fieldItems}
-use Rattle.field_rows.specs.Fields.{by, notedDesc, NotedField, Grouped, WroteGroup, Conditioned, Ready, Rowed, WroteField}
+use Rattle.field_rows.specs.Items.{condToken, condRows, fieldSays, fieldGroup, fieldCount, fieldRow, fieldItems}
+use Rattle.field_rows.specs.Fields.{by, notedDesc, NotedField, Conditioned, Ready, Rowed, WroteField}
 use Rattle.field_rows.specs.FieldLaws.{shape-emits, said-all, all-few, all-same, list-fields, cond-walk, put-walk}
 
 eats-field : eats (bytewise field) ≡ true
@@ -97,7 +98,7 @@ module _ {src : List ℕ} {at : ℕ} {p : SourceLocation} (f : FieldMatch) {n : 
       }
 
   module _ {x : Noted} (e : NotedField src at f n x) where
-    pub group-ready : Grouped src at p (x .walk)
+    pub group-ready : Spanned src at p (x .walk)
     group-ready = record { within = w .within; here = w .here; few = subst (λ (m : Walk). Few m at) (sym (e .walk)) (all-few (tokenNumber src at (condToken (f .cond))) (fieldSays src at f) n at (w .few)) }
 
     same-constraints : x .walk .constraints ≡ n .constraints
@@ -106,7 +107,7 @@ module _ {src : List ℕ} {at : ℕ} {p : SourceLocation} (f : FieldMatch) {n : 
     same-fields : x .walk .fields ≡ n .fields
     same-fields = ap (λ (m : Walk). m .fields) (e .walk) ∙ all-same (λ (m : Walk). m .fields) (noted-counts Table.fields) (tokenNumber src at (condToken (f .cond))) (fieldSays src at f) n
 
-    module _ {g : Walk} {c c' : List ℕ} (wg : WroteGroup src at (x .group) (x .walk) g c c') where
+    module _ {g : Walk} {c c' : List ℕ} (wg : WroteSpan src at (x .group) (x .walk) g c c') where
       group-few : Few g (at + halves f (w .drawn) (w .hits) at .k)
       group-few =
           let h = halves f (w .drawn) (w .hits) at in
@@ -117,8 +118,8 @@ module _ {src : List ℕ} {at : ℕ} {p : SourceLocation} (f : FieldMatch) {n : 
       group-count : g .constraints ≡ n .constraints + fieldCount src at f
       group-count =
           ap (λ (s : State). s .n .constraints) (wg .wrote .done [] [] [])
-          ∙ emits-count (groupItems src at (x .group)) (state (x .walk) [] [] [] c)
-          ∙ ap₂ (λ (i : ℕ) (s : Span). i + count Table.constraints (groupItems src at s)) same-constraints (e .group)
+          ∙ grown (spanItems src at (x .group)) (state (x .walk) [] [] [] c) .constraints
+          ∙ ap₂ (λ (i : ℕ) (s : Span). i + count Table.constraints (spanItems src at s)) same-constraints (e .group)
 
       group-fields : g .fields ≡ n .fields
       group-fields = ap (λ (s : State). s .n .fields) (wg .wrote .done [] [] []) ∙ list-fields src _ (state (x .walk) [] [] [] c) ∙ same-fields
@@ -189,7 +190,7 @@ module _ {src : List ℕ} {at : ℕ} {p : SourceLocation} (f : FieldMatch) {n : 
                         (wc .done a t b
                         ∙ ap (emits (condRows src at (f .cond)))
                         (wg .wrote .done a t b
-                        ∙ ap₂ (λ (s : Span) (m : Walk). emits (groupItems src at s) (state m a t b c)) (e .group) (e .walk)
+                        ∙ ap₂ (λ (s : Span) (m : Walk). emits (spanItems src at s) (state m a t b c)) (e .group) (e .walk)
                         ∙ ap (emits (fieldGroup src at f)) (sym (said-all src at (partsOf (f .desc .desc)) (condToken (f .cond)) n a t b c))))
                         ∙ sym (shape-emits (said (tokenNumber src at (condToken (f .cond)))) (saidNumbers (fieldSays src at f)) (fieldGroup src at f) (condRows src at (f .cond)) _ (state n a t b c));
                   };

@@ -6,13 +6,11 @@ ghost use Prim.Native.Nat.{_+_, _-_, _≤_};
 ghost use lib.ListN.{length};
 ghost use lib.Dec.{ltb};
 ghost use Rattle.meaning.specs.Choice.{pick};
-ghost use Rattle.meaning.specs.Tables.{firstOf};
 ghost use Rattle.walk.specs.State.{WroteConstraints};
 ghost use Rattle.field_rows.specs.DescParts.{say};
 ghost use Rattle.field_rows.specs.DescHeld.{InsideParts};
-ghost use Rattle.field_rows.specs.Groups.{listed};
 ghost use Rattle.field_rows.specs.Items.{condToken, condRows, fieldRow};
-ghost use Rattle.field_rows.specs.Fields.{notedDesc, NotedField, Grouped, WroteGroup, Conditioned, Ready, Rowed, WroteField};
+ghost use Rattle.field_rows.specs.Fields.{notedDesc, NotedField, Conditioned, Ready, Rowed, WroteField};
 ghost use Rattle.field_rows.specs.Lists.{Nexts, Listed, WroteList};
 use crate::descs::Parts;
 use crate::descs::parts_of;
@@ -97,38 +95,6 @@ fn note_field(s: &[u8], at: usize, p: SourceLocation, f: FieldMatch, n: Walk) ->
     }
 }
 
-// Whether a group's constraints stand where its span says.
-fn is_listed(s: &[u8], at: usize, g: Span) -> bool
-    requires { ⌜ at ≤ length (now s) ⌝ }
-    ensures { λ r. ⌜ r ≡ listed (now (s .entry)) at g ⌝ }
-{
-    let start = g.start;
-    if g.len == 0 {
-        return false;
-    }
-    if s.len() - at < start {
-        return false;
-    }
-    let j = at + start;
-    let c = constraints::constraint(&s[j..]);
-    let end = c.at;
-    grammar::took(end)
-}
-
-// The rows of a group's constraints, if there are any.
-fn put_group(s: &[u8], at: usize, p: SourceLocation, g: Span, n: Walk, t: &mut [u64]) -> Walk
-    requires { ⌜ Grouped (now s) at p n ⌝ }
-    ensures { λ r. ⌜ WroteGroup (now (s .entry)) at g n r (now (t .entry)) (now (t .exit)) ⌝ }
-{
-    let there = is_listed(s, at, g);
-    if there {} else {
-        return n;
-    }
-    let j = at + g.start;
-    let q = text::move_to(s, p, j);
-    constraint_rows::put_list(s, j, q, n, t)
-}
-
 // The row of a condition, if there is one; v is its number, which was noted before.
 fn put_condition(
     s: &[u8],
@@ -148,16 +114,6 @@ fn put_condition(
     }
     let row = constraint_rows::row_of(s, at, p, c, v);
     walk::put_constraint(n, row, t)
-}
-
-// The first row of some, of which none is 0.
-fn first_of(first: usize, count: usize) -> usize
-    ensures { λ r. ⌜ r ≡ firstOf first count ⌝ }
-{
-    if count == 0 {
-        return 0;
-    }
-    first
 }
 
 // The number of a condition's row, counted from 1: the count of rows behind it. 0 where there is none.
@@ -189,7 +145,7 @@ fn row_of(
     let cond = f.cond;
     let q = text::move_to(s, p, at + grammar::taken(end));
     let count = group - before;
-    let first = first_of(before, count);
+    let first = walk::first_of(before, count);
     walk::field_row(d, p, q, first, count, row_number(cond, last))
 }
 
@@ -212,7 +168,7 @@ pub fn put_one(
     let said = x.said;
     let number = x.number;
     let group = x.group;
-    let g = put_group(s, at, p, group, m, constraints);
+    let g = constraint_rows::put_span(s, at, p, group, m, constraints);
     let h = put_condition(s, at, p, cond, number, g, constraints);
     let row = row_of(
         s,

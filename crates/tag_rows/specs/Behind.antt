@@ -1,116 +1,45 @@
 -- The list in a range's braces: its nodes, and that it stands behind the range's name.
 use Prim.Native.Nat.{ℕ, _+_, _≤_}
 use native.Mathlib.Omega.{arith}
-use mathlib.Core.Path.{_≡_, refl, ap, ap₂, subst, sym, _∙_}
+use mathlib.Core.Path.{_≡_, refl, ap, subst, sym, _∙_}
 use mathlib.Core.List.{List}
 use mathlib.Core.Bool.{Bool, true, false}
 use lib.ListN.{drop}
-use Rattle.meaning.specs.declared.Match.{Match}
-use Rattle.meaning.specs.declared.Match.the-variants.{Missed, Took}
 use Rattle.meaning.specs.Choice.{pick}
 use Rattle.meaning.specs.Rules.{Rule, is}
-use Rattle.meaning.specs.Peg.{Peg, seq, alt, star, opt, rule, join, after, maybe, run, bytewise, hit, taken}
-use Rattle.meaning.specs.Forest.{Forest, nil, tree, _⊕_, Out, missed, took, outcome, clean, forest, eval, nodes}
-use Rattle.meaning.specs.Pdl.{text, _~_, repeat, skip, WHITESPACE, COMMENT, identifier, alpha, enum-value, enum-value-list, enum-range, enum-other, enum-tag}
+use Rattle.meaning.specs.Peg.{Peg, seq, alt, rule, run, bytewise, hit, taken}
+use Rattle.meaning.specs.Forest.{Forest, nil, tree, _⊕_, nodes}
+use Rattle.meaning.specs.Pdl.{identifier, alpha, enum-value, enum-value-list, enum-range, enum-other, enum-tag}
 use Rattle.meaning.specs.Walk.{part, following}
 use Rattle.grammar.specs.Matching.{eats}
-use Rattle.grammar.specs.Agree.{same}
-use Rattle.grammar.specs.Nodes.{nil-right, hit-before, hit-behind, taken-after, hit-pos, nodes-seq, nodes-rule, nodes-alt}
-use Rattle.lexis.specs.Skips.{skip-takes}
-use Rattle.lexis.specs.Leaves.{none-of}
+use Rattle.grammar.specs.Nodes.{hit-before, hit-behind, hit-pos, nodes-seq, nodes-rule, nodes-alt}
 use Rattle.walk.specs.Held.{Held, nodes-held}
-
--- ---- what misses leaves nothing
-pub nodes-missed : (g : Peg) (o : ℕ) (t : List ℕ) → hit (run g t) ≡ false → nodes g o t ≡ nil
-unfolding nodes
-nodes-missed g o t h = go (eval g o t) (ap hit (same g o t) ∙ h)
-  where
-    go : (x : Out) → hit (outcome x) ≡ false → clean (forest x) ≡ nil
-    go (missed f) e = refl
-    go (took n f w) e = absurd (let z : _≡_ {A = ℕ} 0 1 = cc in omega arith)
-
-pub seq-missed : (a b : Peg) (t : List ℕ) → hit (run a t) ≡ false → hit (run (seq a b) t) ≡ false
-unfolding run
-seq-missed a b t h = go (run a t) h
-  where
-    go : (m : Match) → hit m ≡ false → hit (after m (λ u. run b u) t) ≡ false
-    go (Missed f) e = refl
-    go (Took n f) e = absurd (let z : _≡_ {A = ℕ} 0 1 = cc in omega arith)
+use Rattle.walk.specs.Missed.{nodes-missed}
+use Rattle.walk.specs.Listing.{inside, inside-is, list-hit, list-node, list-taken}
 
 -- ---- the list's own node has the nodes of its items
-abbrev pub inside : Peg
-inside = enum-value ~ repeat (text "," ~ enum-value)
+module _ (u : List ℕ) where
+  pub values-hit : hit (run (bytewise enum-value-list) u) ≡ hit (run (bytewise enum-value) u)
+  unfolding enum-value-list
+  values-hit = list-hit Rule.enum-value-list enum-value refl u
 
-abbrev last : Peg
-last = seq skip (opt (text ","))
+  pub values-node : (o : ℕ) → hit (run (bytewise enum-value) u) ≡ true
+      → nodes (bytewise enum-value-list) o u ≡ tree Rule.enum-value-list o (taken (run (bytewise enum-value-list) u)) (nodes (bytewise (inside enum-value)) o u) nil
+  unfolding enum-value-list
+  values-node o h = list-node Rule.enum-value-list enum-value refl o u h
 
--- blanks and a part that may be missing always match
-skip-opt-hit : (x : Peg) (u : List ℕ) → hit (run (bytewise (seq skip (opt x))) u) ≡ true
-unfolding run
-skip-opt-hit x u = go (run (bytewise skip) u) (ap hit (skip-takes u))
-  where
-    joined : (n f : ℕ) (m : Match) → hit (join n f (maybe m)) ≡ true
-    joined n f (Missed g) = refl
-    joined n f (Took i g) = refl
+  pub values-kids : (o : ℕ) → part Rule.enum-value-list (nodes (bytewise enum-value-list) o u) .kids ≡ nodes (bytewise (inside enum-value)) o u
+  values-kids o = go (hit (run (bytewise enum-value) u)) refl
+    where
+      go : (b : Bool) → hit (run (bytewise enum-value) u) ≡ b → part Rule.enum-value-list (nodes (bytewise enum-value-list) o u) .kids ≡ nodes (bytewise (inside enum-value)) o u
+      go true h = ap (λ (w : Forest). part Rule.enum-value-list w .kids) (values-node o h)
+      go false h =
+          ap (λ (w : Forest). part Rule.enum-value-list w .kids) (nodes-missed (bytewise enum-value-list) o u (values-hit ∙ h))
+          ∙ sym (nodes-missed (bytewise (inside enum-value)) o u (inside-is enum-value u ∙ h))
 
-    go : (m : Match) → hit m ≡ true → hit (after m (λ v. run (bytewise (opt x)) v) u) ≡ true
-    go (Missed f) e = e
-    go (Took n f) e = joined n f (run (bytewise x) (drop n u))
-
-last-none : (o : ℕ) (u : List ℕ) → nodes (bytewise last) o u ≡ nil
-unfolding skip WHITESPACE COMMENT
-last-none o u = none-of (bytewise last) refl o u
-
-seq-hit : (a b : Peg) (t : List ℕ) → hit (run a t) ≡ true → hit (run b (drop (taken (run a t)) t)) ≡ true → hit (run (seq a b) t) ≡ true
-unfolding run
-seq-hit a b t h k = go (run a t) h k
-  where
-    joined : (n f : ℕ) (m : Match) → hit m ≡ true → hit (join n f m) ≡ true
-    joined n f (Missed g) e = e
-    joined n f (Took i g) e = refl
-
-    go : (m : Match) → hit m ≡ true → hit (run b (drop (taken m) t)) ≡ true → hit (after m (λ u. run b u) t) ≡ true
-    go (Missed f) p q = p
-    go (Took n f) p q = joined n f (run b (drop n t)) q
-
--- a list is there where its first item is
-pub inside-hit : (u : List ℕ) → hit (run (bytewise enum-value) u) ≡ true → hit (run (bytewise inside) u) ≡ true
-inside-hit u h = seq-hit (bytewise enum-value) (bytewise (seq skip (repeat (text "," ~ enum-value)))) u h
-    (skip-opt-hit (seq (text "," ~ enum-value) (star (seq skip (text "," ~ enum-value)))) (drop (taken (run (bytewise enum-value) u)) u))
-
--- `run` of a rule is that of its expression
-run-list : (u : List ℕ) → run (bytewise enum-value-list) u ≡ run (bytewise (seq inside last)) u
-unfolding run enum-value-list
-run-list u = refl
-
-pub list-hit : (u : List ℕ) → hit (run (bytewise enum-value-list) u) ≡ hit (run (bytewise inside) u)
-list-hit u = go (hit (run (bytewise inside) u)) refl
-  where
-    go : (b : Bool) → hit (run (bytewise inside) u) ≡ b → hit (run (bytewise enum-value-list) u) ≡ b
-    go true h = ap hit (run-list u) ∙ seq-hit (bytewise inside) (bytewise last) u h (skip-opt-hit (text ",") _)
-    go false h = ap hit (run-list u) ∙ seq-missed (bytewise inside) (bytewise last) u h
-
-pub list-node : (o : ℕ) (u : List ℕ) → hit (run (bytewise inside) u) ≡ true
-    → nodes (bytewise enum-value-list) o u ≡ tree Rule.enum-value-list o (taken (run (bytewise enum-value-list) u)) (nodes (bytewise inside) o u) nil
-unfolding enum-value-list
-list-node o u h =
-    nodes-rule Rule.enum-value-list (bytewise (seq inside last)) o u refl (seq-hit (bytewise inside) (bytewise last) u h (skip-opt-hit (text ",") _))
-    ∙ ap₂ (λ (n : ℕ) (w : Forest). tree Rule.enum-value-list o n w nil) (ap taken (sym (run-list u)))
-    (nodes-seq (bytewise inside) (bytewise last) o u h (skip-opt-hit (text ",") _) ∙ ap (λ (w : Forest). nodes (bytewise inside) o u ⊕ w) (last-none _ _) ∙ nil-right _)
-
-pub list-kids : (o : ℕ) (u : List ℕ) → part Rule.enum-value-list (nodes (bytewise enum-value-list) o u) .kids ≡ nodes (bytewise inside) o u
-list-kids o u = go (hit (run (bytewise inside) u)) refl
-  where
-    go : (b : Bool) → hit (run (bytewise inside) u) ≡ b → part Rule.enum-value-list (nodes (bytewise enum-value-list) o u) .kids ≡ nodes (bytewise inside) o u
-    go true h = ap (λ (w : Forest). part Rule.enum-value-list w .kids) (list-node o u h)
-    go false h =
-        ap (λ (w : Forest). part Rule.enum-value-list w .kids) (nodes-missed (bytewise enum-value-list) o u (list-hit u ∙ h))
-        ∙ sym (nodes-missed (bytewise inside) o u h)
-
--- the items end inside the list
-pub list-taken : (u : List ℕ) → hit (run (bytewise enum-value-list) u) ≡ true → taken (run (bytewise inside) u) ≤ taken (run (bytewise enum-value-list) u)
-unfolding run enum-value-list
-list-taken u h = omega (arith, taken-after (run (bytewise inside) u) (λ v. run (bytewise last) v) u h)
+  pub values-taken : hit (run (bytewise enum-value) u) ≡ true → taken (run (bytewise (inside enum-value)) u) ≤ taken (run (bytewise enum-value-list) u)
+  unfolding enum-value-list
+  values-taken h = list-taken Rule.enum-value-list enum-value refl u h
 
 -- ---- nodes that start at lo or behind it, side by side
 abbrev pub From : ℕ → Forest → Type 0

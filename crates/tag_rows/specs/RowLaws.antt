@@ -29,10 +29,12 @@ use Rattle.walk.specs.StateLaws.{emits-append}
 use Rattle.walk.specs.SaidLaws.{said-number, noted-few, wider-few}
 use Rattle.walk.specs.Said.{numberAt, noNumber, said, spanName, tagWords}
 use Rattle.walk.specs.Turns.{list-past}
+use Rattle.walk.specs.Missed.{nodes-missed}
+use Rattle.walk.specs.Listing.{inside, inside-is}
 use Rattle.tag_rows.specs.Tags.{values, walked, listItems, stop, Done, valueItems, otherItems, innerItems, rangeRow, rangeItems}
 use Rattle.tag_rows.specs.Placed.{PlacedValue, PlacedOther, PlacedRange, PlacedInner}
 use Rattle.tag_rows.specs.Late.{tags-after, whole-values, late}
-use Rattle.tag_rows.specs.Behind.{inside, inside-hit, list-hit, list-kids, list-taken, nodes-missed}
+use Rattle.tag_rows.specs.Behind.{values-hit, values-kids, values-taken}
 use Rattle.tag_rows.specs.TagLaws.{done-as, done-none, list-missed}
 
 -- the words of a row, from what the code has of them
@@ -141,41 +143,41 @@ module _ {src : List ℕ} {at : ℕ} {p : SourceLocation} {len : ℕ} {list : Sp
   abbrev there : List ℕ
   there = drop (list .start) (drop at src)
 
-  some-list : 0 < list .len → innerItems src at list ≡ walked values src (nodes (bytewise inside) (at + list .start) there)
+  some-list : 0 < list .len → innerItems src at list ≡ walked values src (nodes (bytewise (inside enum-value)) (at + list .start) there)
   some-list s =
       ap (λ (b : Bool). walked values src (part Rule.enum-value-list (pick b (nodes (bytewise enum-value-list) (at + list .start) there) nil) .kids)) (lt-ltb 0 (list .len) s)
-      ∙ ap (walked values src) (list-kids (at + list .start) there)
+      ∙ ap (walked values src) (values-kids there (at + list .start))
 
   nothing : (b : Bool) → b ≡ false → walked values src (part Rule.enum-value-list (pick b (nodes (bytewise enum-value-list) (at + list .start) there) nil) .kids) ≡ []
   unfolding each
   nothing true e = absurd (let z : _≡_ {A = ℕ} 0 1 = cc in omega arith)
   nothing false e = refl
 
-  missed-list : hit (run (bytewise inside) there) ≡ false → walked values src (nodes (bytewise inside) (at + list .start) there) ≡ []
+  missed-list : hit (run (bytewise enum-value) there) ≡ false → walked values src (nodes (bytewise (inside enum-value)) (at + list .start) there) ≡ []
   unfolding each
-  missed-list h = ap (walked values src) (nodes-missed (bytewise inside) (at + list .start) there h)
+  missed-list h = ap (walked values src) (nodes-missed (bytewise (inside enum-value)) (at + list .start) there (inside-is enum-value there ∙ h))
 
   pub inner-none : {t : List ℕ} → (0 < list .len → hit (run (bytewise enum-value-list) there) ≡ true → ⊥) → Done (innerItems src at list) (at + len) n n t t
   inner-none {t} nay = done-none (go (ltb 0 (list .len)) refl (hit (run (bytewise enum-value-list) there)) refl) (w .few) (omega (arith, w .place .some))
     where
       go : (b : Bool) → ltb 0 (list .len) ≡ b → (c : Bool) → hit (run (bytewise enum-value-list) there) ≡ c → innerItems src at list ≡ []
       go b e true h = let z : 0 < list .len → ⊥ = λ a. nay a h in nothing (ltb 0 (list .len)) (le-ltb 0 (list .len) (omega arith))
-      go true e false h = some-list (ltb-true 0 (list .len) e) ∙ missed-list (sym (list-hit there) ∙ h)
+      go true e false h = some-list (ltb-true 0 (list .len) e) ∙ missed-list (sym (values-hit there) ∙ h)
       go false e false h = nothing (ltb 0 (list .len)) e
 
   pub inner-done : {r : Walk} {t u : List ℕ} → 0 < list .len → Done (listItems values src (at + list .start)) (stop enum-value src (at + list .start)) n r t u → Done (innerItems src at list) (at + len) n r t u
   inner-done {r} {t} {u} s h =
       let e : innerItems src at list ≡ listItems values src (at + list .start)
-      = some-list s ∙ ap (λ (y : List ℕ). walked values src (nodes (bytewise inside) (at + list .start) y)) (drop-drop (list .start) at src) in
+      = some-list s ∙ ap (λ (y : List ℕ). walked values src (nodes (bytewise (inside enum-value)) (at + list .start) y)) (drop-drop (list .start) at src) in
       done-as e refl (record { wrote = h .wrote; few = go (hit (run (bytewise enum-value) (drop (at + list .start) src))) refl })
     where
       go : (b : Bool) → hit (run (bytewise enum-value) (drop (at + list .start) src)) ≡ b → Few r (at + len)
       go true b =
-          let l : hit (run (bytewise enum-value-list) (drop (at + list .start) src)) ≡ true = list-hit (drop (at + list .start) src) ∙ inside-hit (drop (at + list .start) src) b in
+          let l : hit (run (bytewise enum-value-list) (drop (at + list .start) src)) ≡ true = values-hit (drop (at + list .start) src) ∙ b in
           let z : drop (list .start) (drop at src) ≡ drop (at + list .start) src = drop-drop (list .start) at src in
           let x : list .start + taken (run (bytewise enum-value-list) there) ≤ len = w .inside s (ap (λ (y : List ℕ). hit (run (bytewise enum-value-list) y)) z ∙ l) .1 in
           let y : list .start + taken (run (bytewise enum-value-list) (drop (at + list .start) src)) ≤ len = subst (λ (y : List ℕ). list .start + taken (run (bytewise enum-value-list) y) ≤ len) z x in
-          wider-few r (stop enum-value src (at + list .start)) (at + len) (omega (arith, list-past enum-value src (at + list .start) b, list-taken (drop (at + list .start) src) l, y)) (h .few)
+          wider-few r (stop enum-value src (at + list .start)) (at + len) (omega (arith, list-past enum-value src (at + list .start) b, values-taken (drop (at + list .start) src) b, y)) (h .few)
       go false b =
           let e : r ≡ n = unmoved (subst (λ (xs : List Item). WroteTags xs n r t u) (list-missed values src (at + list .start) b) (h .wrote)) in
           subst (λ (y : Walk). Few y (at + len)) (sym e) (wider-few n (at + 1) (at + len) (omega (arith, w .place .some)) (w .few))

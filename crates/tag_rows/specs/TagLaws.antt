@@ -11,7 +11,7 @@ use Rattle.meaning.specs.Choice.{pick}
 use Rattle.meaning.specs.Rules.{Rule}
 use Rattle.meaning.specs.Peg.{run, bytewise, hit, taken}
 use Rattle.meaning.specs.Forest.{Forest, nil, tree, nodes}
-use Rattle.meaning.specs.Pdl.{text, _~_, repeat, enum-value-list}
+use Rattle.meaning.specs.Pdl.{enum-value, enum-value-list}
 use Rattle.meaning.specs.Tables.{Item}
 use Rattle.meaning.specs.Walk.{each, following}
 use Rattle.grammar.specs.Nodes.{hit-pos}
@@ -27,10 +27,12 @@ use Rattle.walk.specs.declared.Walk.{Walk}
 use Rattle.walk.specs.State.{emits, Few}
 use Rattle.walk.specs.SaidLaws.{wider-few}
 use Rattle.walk.specs.Held.{Held}
+use Rattle.walk.specs.Missed.{nodes-missed}
+use Rattle.walk.specs.Listing.{inside, inside-is}
 use Rattle.walk.specs.Insides.{held, held-left, held-right, span-inside, took-inside}
 use Rattle.tag_rows.specs.Tags.{Form, values, tags, walked, itemsOf, listItems, Done, valueItems, otherItems, rangeItems, Lawful, lawful-values, lawful-tags, inside-value, inside-range, inside-other, tag-value, tag-range, tag-other}
 use Rattle.tag_rows.specs.Placed.{Here, PlacedValue, PlacedOther, ListInside, PlacedRange, Met}
-use Rattle.tag_rows.specs.Behind.{From, kidsOf, tag-behind, inside, list-hit, list-node, nodes-missed, seq-missed}
+use Rattle.tag_rows.specs.Behind.{From, kidsOf, tag-behind, values-hit, values-node}
 
 -- ---- promises in other words
 pub done-as : {xs ys : List Item} {j k : ℕ} {n r : Walk} {t u : List ℕ} → xs ≡ ys → j ≡ k → Done ys k n r t u → Done xs j n r t u
@@ -45,7 +47,7 @@ done-none {xs} {j} {k} {n} {t} e h w = done-as {ys = []} e refl (record { wrote 
 pub list-missed : (z : Form) (src : List ℕ) (at : ℕ) → hit (run (bytewise (z .peg)) (drop at src)) ≡ false → listItems z src at ≡ []
 unfolding each
 list-missed z src at h =
-    ap (walked z src) (nodes-missed (bytewise (z .peg ~ repeat (text "," ~ z .peg))) at (drop at src) (seq-missed (bytewise (z .peg)) _ (drop at src) h))
+    ap (walked z src) (nodes-missed (bytewise (inside (z .peg))) at (drop at src) (inside-is (z .peg) (drop at src) ∙ h))
 
 -- ---- the spans of an answer
 pub met-some : {z : Form} {src : List ℕ} {at : ℕ} {p : SourceLocation} {c : TagMatch} {n : Walk} → Lawful z → Met z src at p c n → 0 < taken (c .at)
@@ -75,9 +77,9 @@ module _ (src : List ℕ) (at : ℕ) (p : SourceLocation) (k : ℕ) (n : Walk) (
   list-inside : (list : Span) → Held at (at + k) (listAt enum-value-list at (drop at src) list) → From (at + 1) (listAt enum-value-list at (drop at src) list) → ListInside src at k list
   list-inside list h b some hits =
       let e : listAt enum-value-list at (drop at src) list
-      ≡ tree Rule.enum-value-list (at + list .start) (taken (run (bytewise enum-value-list) (drop (list .start) (drop at src)))) (nodes (bytewise inside) (at + list .start) (drop (list .start) (drop at src))) nil
+      ≡ tree Rule.enum-value-list (at + list .start) (taken (run (bytewise enum-value-list) (drop (list .start) (drop at src)))) (nodes (bytewise (inside enum-value)) (at + list .start) (drop (list .start) (drop at src))) nil
       = ap (λ (x : Bool). pick x (nodes (bytewise enum-value-list) (at + list .start) (drop (list .start) (drop at src))) nil) (lt-ltb 0 (list .len) some)
-      ∙ list-node (at + list .start) (drop (list .start) (drop at src)) (sym (list-hit _) ∙ hits) in
+      ∙ values-node (drop (list .start) (drop at src)) (at + list .start) (sym (values-hit _) ∙ hits) in
       let h' = subst (λ (w : Forest). Held at (at + k) w) e h in
       let b' = subst (λ (w : Forest). From (at + 1) w) e b in
       let x : at + 1 ≤ at + list .start = b' .0 in

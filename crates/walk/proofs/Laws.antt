@@ -1,5 +1,5 @@
 -- What the walk's small functions return, one law for each way out.
-use Prim.Native.Nat.{ℕ, _+_, _-_, _≤_, _<_}
+use Prim.Native.Nat.{ℕ, zero, suc, _+_, _-_, _≤_, _<_}
 use native.Mathlib.Omega.{arith}
 use mathlib.Core.Path.{_≡_, refl, ap, subst, sym, _∙_}
 use mathlib.Core.List.{List, [], _∷_}
@@ -15,10 +15,11 @@ use Rattle.meaning.specs.Convert.{convert, reasonOf, valueOf}
 use Rattle.spans.specs.declared.Span.{Span}
 use Rattle.spans.specs.declared.Token.{Token}
 use Rattle.walk.specs.declared.Walk.{Walk}
+use Rattle.walk.specs.declared.Name.{Name}
 use Rattle.walk.specs.declared.Number.{Number}
-use Rattle.meaning.specs.Tables.{Table, row, put}
-use Rattle.walk.specs.State.{noted, state, emits, with-tag, with-constraint, with-field, WroteTags, WroteConstraints, PutField}
-use Rattle.walk.specs.Said.{numberAt, Inside, InsideToken}
+use Rattle.meaning.specs.Tables.{Table, row, put, firstOf}
+use Rattle.walk.specs.State.{noted, state, emits, with-declaration, with-field, with-tag, with-constraint, WroteTags, WroteConstraints, PutField, PutDeclaration}
+use Rattle.walk.specs.Said.{numberAt, unquotedName, Inside, InsideToken}
 
 -- ---- integers
 no-value : (r : Converted) → OneOf (1 ∷ 2 ∷ 3 ∷ []) (tagOf the-type r) → valueOf r ≡ 0
@@ -63,6 +64,15 @@ module _ (n : Walk) (p r : ℕ) where
 pub inside : (n : ℕ) (x y : Token) → x ≡ y → InsideToken n x → InsideToken n y
 inside n x y e h = subst (λ (z : Token). InsideToken n z) e h
 
+-- less than two quotes leave nothing between them
+pub unquoted-short : (o : ℕ) (x : Span) → x .len < 2 → _≡_ {A = Name} (record { offset = o + x .start + 1; len = 0 }) (unquotedName o x)
+unquoted-short o x h = let e : 0 ≡ x .len - 2 = omega arith in ap (λ (k : ℕ). record { offset = o + x .start + 1; len = k }) e
+
+-- ---- words of a row
+pub first-some : (k n : ℕ) → (n ≡ 0 → ⊥) → k ≡ firstOf k n
+first-some k zero h = absurd (h refl)
+first-some k (suc n) h = refl
+
 -- ---- rows into tables
 sized : (n k : ℕ) (ws t u : List ℕ) → length ws ≡ n → u ≡ put (length ws) k ws t → u ≡ put n k ws t
 sized n k ws t u e h = h ∙ ap (λ (i : ℕ). put i k ws t) e
@@ -79,3 +89,7 @@ module _ (n : Walk) (ws t u : List ℕ) where
   pub field-put : length ws ≡ 20 → u ≡ put (length ws) (n .fields) ws t → PutField ws n (with-field n) t u
   unfolding emits
   field-put e h = record { done = λ d f c. ap (λ (v : List ℕ). state (with-field n) d v f c) (sized 20 (n .fields) ws t u e h) }
+
+  pub declaration-put : length ws ≡ 17 → u ≡ put (length ws) (n .declarations) ws t → PutDeclaration ws n (with-declaration n) t u
+  unfolding emits
+  declaration-put e h = record { done = λ f x c. ap (λ (v : List ℕ). state (with-declaration n) v f x c) (sized 17 (n .declarations) ws t u e h) }

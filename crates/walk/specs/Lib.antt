@@ -1,10 +1,13 @@
 pub mod State
 pub mod StateLaws
+pub mod Counts
 pub mod Held
+pub mod Missed
 pub mod Said
 pub mod DrawnItems
 pub mod Ready
 pub mod Turns
+pub mod Listing
 pub mod Insides
 pub mod Nexts
 pub mod SaidLaws

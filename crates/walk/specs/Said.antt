@@ -1,5 +1,5 @@
 -- What the spans of a match say of the source: numbers, names, and the words of a row. The match's text stands at offset o.
-use Prim.Native.Nat.{ℕ, _+_, _≤_}
+use Prim.Native.Nat.{ℕ, _+_, _-_, _≤_}
 use mathlib.Core.List.{List, [], _∷_}
 use lib.ListN.{length, take, drop}
 use lib.Dec.{eqb}
@@ -70,6 +70,20 @@ modifierName o (BodyIdentifier s) = noName
 modifierName o (Integer s) = noName
 modifierName o (Text s) = noName
 modifierName o (SizeModifier s) = spanName o s
+
+-- a quoted text without its quotes
+abbrev pub unquotedName : ℕ → Span → Name
+unquotedName o s = record { offset = o + s .start + 1; len = s .len - 2 }
+
+-- a declaration's name beside its id: its function's text, or else its parent
+abbrev pub otherName : ℕ → Token → Token → Name
+otherName o p Absent = identifierName o p
+otherName o p (Identifier s) = identifierName o p
+otherName o p (PayloadIdentifier s) = identifierName o p
+otherName o p (BodyIdentifier s) = identifierName o p
+otherName o p (Integer s) = identifierName o p
+otherName o p (Text s) = unquotedName o s
+otherName o p (SizeModifier s) = identifierName o p
 
 -- ---- a span, or a token's, lies inside a text of n bytes
 abbrev pub Inside : ℕ → Span → Type 0

@@ -76,3 +76,7 @@ pub record WroteFields (xs : List Item) (n r : Walk) (f f' c c' : List ℕ) : Ty
 -- one field's row, which leaves all but its own table alone
 pub record PutField (ws : List ℕ) (n r : Walk) (f f' : List ℕ) : Type 0 where
   pub done : (d t c : List ℕ) → state r d f' t c ≡ emits (row Table.fields ws ∷ []) (state n d f t c)
+
+-- one declaration's row, which leaves all but its own table alone
+pub record PutDeclaration (ws : List ℕ) (n r : Walk) (d d' : List ℕ) : Type 0 where
+  pub done : (f t c : List ℕ) → state r d' f t c ≡ emits (row Table.declarations ws ∷ []) (state n d f t c)

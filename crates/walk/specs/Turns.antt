@@ -148,21 +148,21 @@ module _ (x : Peg) (src : List ℕ) (j : ℕ) (k d : Match) (hk : Reads comma (d
 hit-skip : (u : List ℕ) → hit (run (bytewise skip) u) ≡ true
 hit-skip u = ap hit (skip-takes u)
 
-hit-turns : (x : Peg) (u : List ℕ) → hit (run (bytewise (seq skip (repeat (text "," ~ x)))) u) ≡ true
+-- blanks and a part that may be missing always match
+pub hit-opt : (y : Peg) (u : List ℕ) → hit (run (bytewise (seq skip (opt y))) u) ≡ true
 unfolding run
-hit-turns x u = go (run (bytewise skip) u) (hit-skip u)
+hit-opt y u = go (run (bytewise skip) u) (hit-skip u)
   where
-    opened : (m : Match) → hit (maybe m) ≡ true
-    opened (Missed f) = refl
-    opened (Took n f) = refl
+    opened : (n f : ℕ) (m : Match) → hit (join n f (maybe m)) ≡ true
+    opened n f (Missed g) = refl
+    opened n f (Took i g) = refl
 
-    joined : (n f : ℕ) (m : Match) → hit m ≡ true → hit (join n f m) ≡ true
-    joined n f (Missed g) e = e
-    joined n f (Took i g) e = refl
-
-    go : (m : Match) → hit m ≡ true → hit (after m (λ v. run (bytewise (repeat (text "," ~ x))) v) u) ≡ true
+    go : (m : Match) → hit m ≡ true → hit (after m (λ v. run (bytewise (opt y)) v) u) ≡ true
     go (Missed f) e = e
-    go (Took n f) e = joined n f (run (bytewise (repeat (text "," ~ x))) (drop n u)) (opened (run (bytewise (seq (text "," ~ x) (star (turn x)))) (drop n u)))
+    go (Took n f) e = opened n f (run (bytewise y) (drop n u))
+
+pub hit-turns : (x : Peg) (u : List ℕ) → hit (run (bytewise (seq skip (repeat (text "," ~ x)))) u) ≡ true
+hit-turns x u = hit-opt (seq (text "," ~ x) (star (turn x))) u
 
 pub first-item : (x : Peg) (src : List ℕ) (at : ℕ) → hit (run (bytewise x) (drop at src)) ≡ true
     → nodes (bytewise (x ~ repeat (text "," ~ x))) at (drop at src) ≡ nodes (bytewise x) at (drop at src) ⊕ rest x src (at + taken (run (bytewise x) (drop at src)))

@@ -3,11 +3,11 @@ ghost use mathlib.Core.Path.{_≡_};
 ghost use Prim.Native.Nat.{_+_, _^_, _-_, _≤_, _<_};
 ghost use mathlib.Core.List.{[], _∷_};
 ghost use lib.ListN.{length};
-ghost use Rattle.meaning.specs.Tables.{Table, row};
+ghost use Rattle.meaning.specs.Tables.{Table, row, firstOf};
 ghost use Rattle.grammar.specs.Matching.{Reads};
 ghost use Rattle.walk.specs.Turns.{comma};
-ghost use Rattle.walk.specs.State.{noted, WroteTags, WroteConstraints, PutField};
-ghost use Rattle.walk.specs.Said.{numberAt, noNumber, tokenNumber, noName, spanName, identifierName, fieldName, modifierName, Inside, InsideToken, tagWords, constraintKind, constraintWords, fieldWords, declarationWords};
+ghost use Rattle.walk.specs.State.{fresh, noted, WroteTags, WroteConstraints, PutField, PutDeclaration};
+ghost use Rattle.walk.specs.Said.{numberAt, noNumber, tokenNumber, noName, spanName, unquotedName, identifierName, fieldName, modifierName, otherName, Inside, InsideToken, tagWords, constraintKind, constraintWords, fieldWords, declarationWords};
 use lexis::blanks::then_blanks;
 use lexis::texts::then_literal;
 use meaning::Converted;
@@ -32,6 +32,20 @@ pub struct Walk {
     pub constraints: usize,
     pub place: usize,
     pub reason: u64,
+}
+
+// The state before the first item.
+pub fn nothing() -> Walk
+    ensures { λ r. ⌜ r ≡ fresh ⌝ }
+{
+    Walk {
+        declarations: 0,
+        fields: 0,
+        tags: 0,
+        constraints: 0,
+        place: 0,
+        reason: 0,
+    }
 }
 
 // An integer of the source: whether there is one, where it starts, why it does not convert (0: it does), what it says.
@@ -165,6 +179,37 @@ pub fn modifier_name(at: usize, n: usize, token: Token) -> Name
     }
 }
 
+// The name that a quoted text is, without its quotes.
+fn unquoted_name(at: usize, x: Span) -> Name
+    requires { ⌜ at + x .start + 1 < 2 ^ 64 ⌝ }
+    ensures { λ r. ⌜ r ≡ unquotedName at x ⌝ }
+{
+    let offset = at + x.start + 1;
+    if x.len < 2 {
+        return Name { offset, len: 0 };
+    }
+    Name {
+        offset,
+        len: x.len - 2,
+    }
+}
+
+// The name of a declaration beside its id: its function's text, or else its parent.
+pub fn other_name(at: usize, n: usize, parent: Token, function: Token) -> Name
+    requires { ⌜ (at + n + 1 < 2 ^ 64) × (InsideToken n parent × InsideToken n function) ⌝ }
+    ensures { λ r. ⌜ r ≡ otherName at parent function ⌝ }
+{
+    match function {
+        Token::Text(x) => unquoted_name(at, x),
+        Token::Absent => identifier_name(at, n, parent),
+        Token::Identifier(_) => identifier_name(at, n, parent),
+        Token::PayloadIdentifier(_) => identifier_name(at, n, parent),
+        Token::BodyIdentifier(_) => identifier_name(at, n, parent),
+        Token::Integer(_) => identifier_name(at, n, parent),
+        Token::SizeModifier(_) => identifier_name(at, n, parent),
+    }
+}
+
 // The state after an integer: the first bad one stays.
 pub fn note(n: Walk, x: Number) -> Walk
     ensures { λ r. ⌜ r ≡ noted (x .place) (x .reason) n ⌝ }
@@ -285,6 +330,52 @@ pub fn field_row(
     ]
 }
 
+// A declaration's row.
+pub fn declaration_row(
+    kind: u64,
+    p: SourceLocation,
+    q: SourceLocation,
+    id: Name,
+    other: Name,
+    width: Number,
+    first: usize,
+    count: usize,
+    list: usize,
+    listed: usize,
+) -> [u64; 17]
+    ensures { λ r. ⌜ r ≡ declarationWords kind p q id other width first count list listed ⌝ }
+{
+    [
+        kind,
+        p.offset as u64,
+        p.line as u64,
+        p.column as u64,
+        q.offset as u64,
+        q.line as u64,
+        q.column as u64,
+        id.offset as u64,
+        id.len as u64,
+        other.offset as u64,
+        other.len as u64,
+        width.found,
+        width.value,
+        first as u64,
+        count as u64,
+        list as u64,
+        listed as u64,
+    ]
+}
+
+// The first row of some, of which none is 0.
+pub fn first_of(first: usize, count: usize) -> usize
+    ensures { λ r. ⌜ r ≡ firstOf first count ⌝ }
+{
+    if count == 0 {
+        return 0;
+    }
+    first
+}
+
 // A tag's row into its table.
 pub fn put_tag(n: Walk, tag: [u64; 12], t: &mut [u64]) -> Walk
     requires { ⌜ n .tags + 1 < 2 ^ 64 ⌝ }
@@ -326,6 +417,22 @@ pub fn put_field(n: Walk, field: [u64; 20], f: &mut [u64]) -> Walk
     Walk {
         declarations: n.declarations,
         fields: n.fields + 1,
+        tags: n.tags,
+        constraints: n.constraints,
+        place: n.place,
+        reason: n.reason,
+    }
+}
+
+// A declaration's row into its table.
+pub fn put_declaration(n: Walk, declaration: [u64; 17], d: &mut [u64]) -> Walk
+    requires { ⌜ n .declarations + 1 < 2 ^ 64 ⌝ }
+    ensures { λ r. ⌜ PutDeclaration declaration n r (now (d .entry)) (now (d .exit)) ⌝ }
+{
+    ast::put_row(d, n.declarations, &declaration);
+    Walk {
+        declarations: n.declarations + 1,
+        fields: n.fields,
         tags: n.tags,
         constraints: n.constraints,
         place: n.place,

@@ -2,14 +2,14 @@ use native.Mathlib.Omega.{arith}
 use mathlib.Core.Path.{_∙_, sym}
 use denote.Ref.{now}
 use Rattle.walk.specs.Ready.{ready}
-use Rattle.field_rows.specs.Groups.{listed-within}
-use Rattle.field_rows.specs.FieldLaws.{group-empty, group-ready, group-done}
+use Rattle.constraint_rows.specs.Spanned.{listed-within}
+use Rattle.constraint_rows.specs.SpanLaws.{span-empty, span-ready, span-done}
 use borrow.Author.Needs.{needs}
-use Rattle.field_rows.proofs.put_group.Statement.{statement}
-use Rattle.field_rows.proofs.put_group.Tie as tie
+use Rattle.constraint_rows.proofs.put_span.Statement.{statement}
+use Rattle.constraint_rows.proofs.put_span.Tie as tie
 
 returns : tie.Need-returns
-returns c = group-empty (c .before .before .before .before .pre) _ _ (sym (c .before .is-listed .ensures) ∙ (c .if1 .left))
+returns c = span-empty (c .before .before .before .before .pre) _ _ (sym (c .before .is-listed .ensures) ∙ (c .if1 .left))
 
 add-j : tie.Need-add-j
 add-j c = omega (arith, listed-within _ _ (c .before .before .before .before .before .args .g) (sym (c .before .before .is-listed .ensures) ∙ (c .before .if1 .taken)))
@@ -27,7 +27,7 @@ put-list-requires c κs =
     let i = m .before .before in
     let a = i .before in
     let b = a .before .before .before in
-    group-ready (b .pre) (b .args .g) (sym (a .is-listed .ensures) ∙ (i .if1 .taken)) (omega (arith, listed-within _ _ (b .args .g) (sym (a .is-listed .ensures) ∙ (i .if1 .taken)))) (m .move-to .ensures)
+    span-ready (b .pre) (b .args .g) (sym (a .is-listed .ensures) ∙ (i .if1 .taken)) (omega (arith, listed-within _ _ (b .args .g) (sym (a .is-listed .ensures) ∙ (i .if1 .taken)))) (m .move-to .ensures)
 
 returns-2 : tie.Need-returns-2
 returns-2 c =
@@ -35,9 +35,9 @@ returns-2 c =
     let i = p .before .before .before .before in
     let a = i .before in
     let b = a .before .before .before in
-    group-done (b .pre) (b .args .g) (sym (a .is-listed .ensures) ∙ (i .if1 .taken)) (p .put-list .ensures)
+    span-done (b .pre) (b .args .g) (sym (a .is-listed .ensures) ∙ (i .if1 .taken)) (p .put-list .ensures)
 
-pub put-group-spec : {M : Type 1} → statement M
-put-group-spec =
+pub put-span-spec : {M : Type 1} → statement M
+put-span-spec =
     tie.close
     (tie.spec (λ c κs. search needs) returns add-j move-to-requires put-list-requires (λ c. search needs) returns-2)

@@ -1,9 +1,9 @@
 use denote.Ref.{now}
 use mathlib.Core.Path.{_∙_}
-use Rattle.field_rows.specs.Groups.{listed-none, listed-past, listed-is}
+use Rattle.constraint_rows.specs.Spanned.{listed-none, listed-past, listed-is}
 use borrow.Author.Needs.{needs}
-use Rattle.field_rows.proofs.is_listed.Statement.{statement}
-use Rattle.field_rows.proofs.is_listed.Tie as tie
+use Rattle.constraint_rows.proofs.is_listed.Statement.{statement}
+use Rattle.constraint_rows.proofs.is_listed.Tie as tie
 
 returns : tie.Need-returns
 returns c = listed-none (now (c .before .before .before .args .s)) (c .before .before .before .args .at) (c .before .before .before .args .g) (c .if1 .taken)

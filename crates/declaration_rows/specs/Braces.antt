@@ -1,0 +1,97 @@
+-- A rule that is a head, a list and a closing brace: its nodes are the head's and then the list's.
+use Prim.Native.Nat.{ℕ, _+_, _≤_}
+use native.Mathlib.Omega.{arith}
+use mathlib.Core.Path.{_≡_, refl, ap, ap₂, sym, _∙_}
+use mathlib.Core.List.{List}
+use mathlib.Core.Bool.{true, false}
+use lib.ListN.{length, drop, length-drop}
+use lib.Seq.{drop-drop}
+use Rattle.meaning.specs.declared.Match.{Match}
+use Rattle.meaning.specs.declared.Match.the-variants.{Missed, Took}
+use Rattle.meaning.specs.Rules.{Rule, is}
+use Rattle.meaning.specs.Peg.{Peg, seq, rule, after, run, bytewise, hit, taken}
+use Rattle.meaning.specs.Forest.{Forest, nil, tree, _⊕_, nodes}
+use Rattle.meaning.specs.Pdl.{text, skip}
+use Rattle.grammar.specs.Matching.{Within, Steps}
+use Rattle.grammar.specs.Steps.{steps}
+use Rattle.grammar.specs.Nodes.{nil-right, hit-before, hit-behind, taken-after}
+use Rattle.grammar.specs.Drawing.{Draws, Follows, from-start, whole, drawn, then, noted}
+use Rattle.lexis.specs.Skips.{Skips, skips}
+use Rattle.spans.specs.Parts.{gap, mark}
+
+-- where a list stands behind a head of n bytes at `at`
+abbrev pub listStart : List ℕ → ℕ → ℕ → ℕ
+listStart src at n = at + n + taken (run (bytewise skip) (drop (at + n) src))
+
+-- a match at the front is a step from the start
+begins : {g : Peg} {t : List ℕ} {m : Match} {w : ℕ → Forest} → Draws g t m w → Follows (Took 0 0) g t m w
+begins {g} {t} d = record { steps = from-start (d .reads); draws = λ z o. ap (λ (i : ℕ). nodes (bytewise g) i t) (omega arith) ∙ d .draws z o }
+
+pub inside : (src : List ℕ) (at : ℕ) {g : Peg} {m : Match} {w : ℕ → Forest} → at ≤ length src → Draws g (drop at src) m w → at + taken m ≤ length src
+inside src at {g} {m} e d = go m (d .reads .fits)
+  where
+    go : (x : Match) → Within x (drop at src) → at + taken x ≤ length src
+    go (Missed f) z = omega arith
+    go (Took n f) z = let q : n ≤ length (drop at src) = z .0 in omega (arith, length-drop at src)
+
+pub list-within : (src : List ℕ) (at n : ℕ) → at + n ≤ length src → listStart src at n ≤ length src
+list-within src at n e = omega (arith, skips (drop (at + n) src) .fits, length-drop (at + n) src)
+
+module _ (r : Rule) (c : is Rule.COMMENT r ≡ false) (h l : Peg) (src : List ℕ) (at : ℕ) {m : Match} {w : ℕ → Forest} (d : Draws h (drop at src) m w) where
+  abbrev t : List ℕ
+  t = drop at src
+
+  abbrev braced : Peg
+  braced = rule r (seq (seq h (seq skip l)) (seq skip (text "}")))
+
+  abbrev b1 : Match
+  b1 = after m (λ u. run (bytewise skip) u) t
+
+  abbrev b2 : Match
+  b2 = after b1 (λ u. run (bytewise l) u) t
+
+  abbrev b3 : Match
+  b3 = after b2 (λ u. run (bytewise (seq skip (text "}"))) u) t
+
+  s1 : Steps m skip t b1
+  s1 = steps m skip t b1 (d .reads .fits) refl
+
+  s2 : Steps b1 l t b2
+  s2 = steps b1 l t b2 (s1 .fits) refl
+
+  s3 : Steps b2 (seq skip (text "}")) t b3
+  s3 = steps b2 (seq skip (text "}")) t b3 (s2 .fits) refl
+
+  all : Draws braced t b3 (λ o. tree r o (taken b3) ((w o ⊕ nil ⊕ nodes (bytewise l) (o + taken b1) (drop (taken b1) t)) ⊕ nil) nil)
+  all = noted r c (whole (then (then (begins d) (then (gap s1) (drawn s2))) (mark s3)))
+
+  module _ (hits : hit (run (bytewise (rule r (seq (seq h (seq skip l)) (seq skip (text "}"))))) (drop at src)) ≡ true) where
+    h3 : hit b3 ≡ true
+    h3 = ap hit (all .reads .is) ∙ hits
+
+    h2 : hit b2 ≡ true
+    h2 = hit-before b2 (λ u. run (bytewise (seq skip (text "}"))) u) t h3
+
+    h1 : hit b1 ≡ true
+    h1 = hit-before b1 (λ u. run (bytewise l) u) t h2
+
+    pub head-hits : hit m ≡ true
+    head-hits = hit-before m (λ u. run (bytewise skip) u) t h1
+
+    -- where the list stands
+    place-is : at + taken b1 ≡ listStart src at (taken m)
+    place-is = omega (arith, taken-after m (λ u. run (bytewise skip) u) t h1, ap (λ (u : List ℕ). taken (run (bytewise skip) u)) (drop-drop (taken m) at src))
+
+    rest-at : drop (taken b1) (drop at src) ≡ drop (listStart src at (taken m)) src
+    rest-at = drop-drop (taken b1) at src ∙ ap (λ (i : ℕ). drop i src) place-is
+
+    pub list-hits : hit (run (bytewise l) (drop (listStart src at (taken m)) src)) ≡ true
+    list-hits = ap (λ (u : List ℕ). hit (run (bytewise l) u)) (sym rest-at) ∙ hit-behind b1 (λ u. run (bytewise l) u) t h2
+
+    pub braced-nodes : nodes (bytewise (rule r (seq (seq h (seq skip l)) (seq skip (text "}"))))) at (drop at src)
+        ≡ tree r at (taken (run (bytewise (rule r (seq (seq h (seq skip l)) (seq skip (text "}"))))) (drop at src)))
+        (w at ⊕ nodes (bytewise l) (listStart src at (taken m)) (drop (listStart src at (taken m)) src)) nil
+    braced-nodes =
+        all .draws h3 at
+        ∙ ap₂ (λ (n : ℕ) (v : Forest). tree r at n v nil) (ap taken (all .reads .is))
+        (nil-right _ ∙ ap (λ (v : Forest). w at ⊕ v) (ap₂ (λ (i : ℕ) (u : List ℕ). nodes (bytewise l) i u) place-is rest-at))

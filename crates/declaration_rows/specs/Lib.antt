@@ -1,0 +1,15 @@
+pub mod Kinds
+pub mod Braces
+pub mod Members
+pub mod Wholes
+pub mod Spotted
+pub mod Said
+pub mod Sorts
+pub mod Heads
+pub mod Declarations
+pub mod Seen
+pub mod OneDeclaration
+pub mod Tests
+pub mod Lists
+pub mod NextLaws
+pub mod ListLaws

@@ -1,0 +1,133 @@
+-- What stands between a declaration's braces: the tags of an enum, or the fields of any other kind.
+use Prim.Native.Nat.{ℕ, _+_, _≤_}
+use native.Mathlib.Omega.{arith}
+use mathlib.Core.Path.{_≡_, refl, ap, subst, sym, _∙_}
+use mathlib.Core.List.{List, []}
+use mathlib.Core.Bool.{Bool, true, false}
+use lib.ListN.{length, drop}
+use lib.Dec.{eqb, ltb}
+use borrow.Author.Tests.{eq-eqb, ne-eqb, lt-ltb, le-ltb}
+use Rattle.meaning.specs.declared.SourceLocation.{SourceLocation}
+use Rattle.meaning.specs.Choice.{pick}
+use Rattle.meaning.specs.Rules.{Rule}
+use Rattle.meaning.specs.Peg.{run, bytewise, hit, taken}
+use Rattle.meaning.specs.Forest.{Forest, nil, tree, nodes}
+use Rattle.meaning.specs.Pdl.{enum-tag, enum-tag-list, field, field-list}
+use Rattle.meaning.specs.Places.{placeAt}
+use Rattle.meaning.specs.Tables.{Table, Item, count}
+use Rattle.meaning.specs.Walk.{each, parse-enum-tag, parse-field-list}
+use Rattle.walk.specs.declared.Walk.{Walk}
+use Rattle.walk.specs.State.{state, emits, Few}
+use Rattle.walk.specs.SaidLaws.{wider-few}
+use Rattle.walk.specs.Held.{Held}
+use Rattle.walk.specs.Turns.{list-past}
+use Rattle.walk.specs.Listing.{inside, listOf, list-node, list-taken}
+use Rattle.tag_rows.specs.Tags as T
+use Rattle.tag_rows.specs.Placed as P
+use Rattle.field_rows.specs.Lists as F
+
+-- a field stands at i, where a declaration of the kind k may have some
+abbrev pub fielded : List ℕ → ℕ → ℕ → Bool
+fielded src i k = pick (ltb 4 k) false (hit (run (bytewise field) (drop i src)))
+
+-- by the kind and where they stand: nodes, items (those before them are xs), and how many of them a walk has counted
+abbrev pub memberNodes : List ℕ → ℕ → ℕ → Forest
+memberNodes src k i =
+    pick (eqb k 1) (nodes (bytewise enum-tag-list) i (drop i src))
+    (pick (fielded src i k) (nodes (bytewise field-list) i (drop i src)) nil)
+
+abbrev pub memberItems : List ℕ → List Item → ℕ → ℕ → List Item
+memberItems src xs k i = pick (eqb k 1) (T.listItems T.tags src i) (pick (fielded src i k) (parse-field-list src xs (F.listNodes src i)) [])
+
+abbrev pub membersOf : ℕ → Walk → ℕ
+membersOf k n = pick (eqb k 1) (n .tags) (n .fields)
+
+pub members-tags : (k : ℕ) (n : Walk) → k ≡ 1 → n .tags ≡ membersOf k n
+members-tags k n e = ap (λ (b : Bool). pick b (n .tags) (n .fields)) (sym (eq-eqb k 1 e))
+
+pub members-fields : (k : ℕ) (n : Walk) → (k ≡ 1 → ⊥) → n .fields ≡ membersOf k n
+members-fields k n e = ap (λ (b : Bool). pick b (n .tags) (n .fields)) (sym (ne-eqb k 1 e))
+
+-- what the walk over them asks: a tag matches at i, if they are tags
+pub record Membered (src : List ℕ) (i : ℕ) (q : SourceLocation) (k : ℕ) (n : Walk) : Type 0 where
+  pub within : i ≤ length src
+  pub here : q ≡ placeAt src i
+  pub few : Few n i
+  pub tagged : k ≡ 1 → hit (run (bytewise enum-tag) (drop i src)) ≡ true
+
+-- and what it leaves, whatever items stand before them
+pub record WroteMembers (src : List ℕ) (i k : ℕ) (n r : Walk) (f f' t t' c c' : List ℕ) : Type 0 where
+  pub wrote : (xs : List Item) → count Table.constraints xs ≡ n .constraints → (d : List ℕ) → state r d f' t' c' ≡ emits (memberItems src xs k i) (state n d f t c)
+  pub few : (lo hi : ℕ) → Few n hi → Held lo hi (memberNodes src k i) → Few r hi
+
+-- ---- the node of a list
+pub tags-node : (src : List ℕ) (i : ℕ) → hit (run (bytewise enum-tag) (drop i src)) ≡ true
+    → nodes (bytewise enum-tag-list) i (drop i src) ≡ tree Rule.enum-tag-list i (taken (run (bytewise (listOf Rule.enum-tag-list enum-tag)) (drop i src))) (T.listNodes enum-tag src i) nil
+unfolding enum-tag-list
+tags-node src i h = list-node Rule.enum-tag-list enum-tag refl i (drop i src) h
+
+pub fields-node : (src : List ℕ) (i : ℕ) → hit (run (bytewise field) (drop i src)) ≡ true
+    → nodes (bytewise field-list) i (drop i src) ≡ tree Rule.field-list i (taken (run (bytewise (listOf Rule.field-list field)) (drop i src))) (F.listNodes src i) nil
+unfolding field-list
+fields-node src i h = list-node Rule.field-list field refl i (drop i src) h
+
+-- a list ends where its node does
+tags-end : (src : List ℕ) (i lo hi : ℕ) → hit (run (bytewise enum-tag) (drop i src)) ≡ true → Held lo hi (nodes (bytewise enum-tag-list) i (drop i src)) → T.stop enum-tag src i ≤ hi
+tags-end src i lo hi h k =
+    let d = subst (λ (v : Forest). Held lo hi v) (tags-node src i h) k in
+    let e : i + taken (run (bytewise (listOf Rule.enum-tag-list enum-tag)) (drop i src)) ≤ hi = d .1 .0 in
+    omega (arith, e, list-past enum-tag src i h, list-taken Rule.enum-tag-list enum-tag refl (drop i src) h)
+
+fields-end : (src : List ℕ) (i lo hi : ℕ) → hit (run (bytewise field) (drop i src)) ≡ true → Held lo hi (nodes (bytewise field-list) i (drop i src)) → F.stop src i ≤ hi
+fields-end src i lo hi h k =
+    let d = subst (λ (v : Forest). Held lo hi v) (fields-node src i h) k in
+    let e : i + taken (run (bytewise (listOf Rule.field-list field)) (drop i src)) ≤ hi = d .1 .0 in
+    omega (arith, e, list-past field src i h, list-taken Rule.field-list field refl (drop i src) h)
+
+-- ---- a field stands there
+pub fielded-past : (src : List ℕ) (i k : ℕ) → 5 ≤ k → false ≡ fielded src i k
+fielded-past src i k h = ap (λ (b : Bool). pick b false (hit (run (bytewise field) (drop i src)))) (sym (lt-ltb 4 k h))
+
+pub fielded-is : (src : List ℕ) (i k : ℕ) → k ≤ 4 → hit (run (bytewise field) (drop i src)) ≡ fielded src i k
+fielded-is src i k h = ap (λ (b : Bool). pick b false (hit (run (bytewise field) (drop i src)))) (sym (le-ltb 4 k h))
+
+pub fielded-hits : (src : List ℕ) (i k : ℕ) → fielded src i k ≡ true → hit (run (bytewise field) (drop i src)) ≡ true
+fielded-hits src i k h = go (ltb 4 k) h
+  where
+    go : (b : Bool) → pick b false (hit (run (bytewise field) (drop i src))) ≡ true → hit (run (bytewise field) (drop i src)) ≡ true
+    go true e = absurd (let z : _≡_ {A = ℕ} 0 1 = cc in omega arith)
+    go false e = e
+
+-- ---- one law for each answer of `put_members`
+module _ {src : List ℕ} {i : ℕ} {q : SourceLocation} {k : ℕ} {n : Walk} (w : Membered src i q k n) where
+  pub tags-ready : k ≡ 1 → P.Listed src i q n
+  tags-ready e = record { within = w .within; here = w .here; few = w .few; hits = w .tagged e }
+
+  pub tags-done : {r : Walk} {t t' : List ℕ} (f c : List ℕ) → k ≡ 1 → T.Done (T.listItems T.tags src i) (T.stop enum-tag src i) n r t t' → WroteMembers src i k n r f f t t' c c
+  tags-done {r} {t} {t'} f c e o =
+      rw e (record {
+        wrote = λ xs h d. o .wrote .done d f c;
+        few = λ lo hi a h. wider-few r (T.stop enum-tag src i) hi (tags-end src i lo hi (w .tagged e) h) (o .few);
+      })
+
+  module _ (e : k ≡ 1 → ⊥) where
+    other : eqb k 1 ≡ false
+    other = ne-eqb k 1 e
+
+    pub none-done : (f t c : List ℕ) → fielded src i k ≡ false → WroteMembers src i k n n f f t t c c
+    unfolding emits
+    none-done f t c h =
+        record {
+          wrote = λ xs a d. rw (other, h);
+          few = λ lo hi a b. a;
+        }
+
+    pub fields-ready : fielded src i k ≡ true → F.Listed src i q n
+    fields-ready h = record { within = w .within; here = w .here; few = w .few; hits = fielded-hits src i k h }
+
+    pub fields-done : {r : Walk} {f f' c c' : List ℕ} (t : List ℕ) → fielded src i k ≡ true → F.WroteList src i n r f f' c c' → WroteMembers src i k n r f f' t t c c'
+    fields-done {r} {f} {f'} {c} {c'} t h o =
+        record {
+          wrote = λ xs a d. rw (other, h) (o .wrote xs a .done d t);
+          few = λ lo hi a b. wider-few r (F.stop src i) hi (fields-end src i lo hi (fielded-hits src i k h) (rw (other, h) at b)) (o .few);
+        }

@@ -1,0 +1,11 @@
+use mathlib.Core.Path.{refl}
+use Rattle.walk.specs.Said.{declarationWords}
+use Rattle.walk.proofs.declaration_row.Statement.{statement}
+use Rattle.walk.proofs.declaration_row.Tie as tie
+
+returns : tie.Need-returns
+unfolding declarationWords
+returns c = refl
+
+pub declaration-row-spec : {M : Type 1} → statement M
+declaration-row-spec = tie.close (tie.spec returns)

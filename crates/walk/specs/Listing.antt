@@ -1,0 +1,73 @@
+-- A list with a last comma or none, for every item and rule: it is there where its first item is, and has its items' nodes.
+use Prim.Native.Nat.{ℕ, _≤_}
+use native.Mathlib.Omega.{arith}
+use mathlib.Core.Path.{_≡_, refl, ap, _∙_}
+use mathlib.Core.List.{List}
+use mathlib.Core.Bool.{true, false}
+use lib.ListN.{drop}
+use Rattle.meaning.specs.declared.Match.{Match}
+use Rattle.meaning.specs.declared.Match.the-variants.{Missed, Took}
+use Rattle.meaning.specs.Rules.{Rule, is}
+use Rattle.meaning.specs.Peg.{Peg, seq, opt, rule, after, join, run, bytewise, hit, taken}
+use Rattle.meaning.specs.Forest.{Forest, nil, tree, _⊕_, nodes}
+use Rattle.meaning.specs.Pdl.{text, _~_, repeat, skip, WHITESPACE, COMMENT}
+use Rattle.grammar.specs.Nodes.{nil-right, taken-after, nodes-seq, nodes-rule}
+use Rattle.lexis.specs.Leaves.{none-of}
+use Rattle.walk.specs.Turns.{hit-opt, hit-turns}
+use Rattle.walk.specs.Missed.{nodes-missed}
+
+-- where b matches behind a, both match where a does
+hit-seq : (a b : Peg) (t : List ℕ) → hit (run b (drop (taken (run a t)) t)) ≡ true → hit (run (seq a b) t) ≡ hit (run a t)
+unfolding run
+hit-seq a b t h = go (run a t) h
+  where
+    joined : (n f : ℕ) (m : Match) → hit (join n f m) ≡ hit m
+    joined n f (Missed g) = refl
+    joined n f (Took i g) = refl
+
+    go : (m : Match) → hit (run b (drop (taken m) t)) ≡ true → hit (after m (λ u. run b u) t) ≡ hit m
+    go (Missed f) e = refl
+    go (Took n f) e = joined n f (run b (drop n t)) ∙ e
+
+-- ---- items of x with commas between
+abbrev pub inside : Peg → Peg
+inside x = x ~ repeat (text "," ~ x)
+
+pub inside-is : (x : Peg) (u : List ℕ) → hit (run (bytewise (inside x)) u) ≡ hit (run (bytewise x) u)
+inside-is x u = hit-seq (bytewise x) (bytewise (seq skip (repeat (text "," ~ x)))) u (hit-turns x _)
+
+pub inside-hit : (x : Peg) (u : List ℕ) → hit (run (bytewise x) u) ≡ true → hit (run (bytewise (inside x)) u) ≡ true
+inside-hit x u h = inside-is x u ∙ h
+
+-- ---- the rule k of such items, with a last comma or none
+abbrev last : Peg
+last = seq skip (opt (text ","))
+
+last-none : (o : ℕ) (u : List ℕ) → nodes (bytewise last) o u ≡ nil
+unfolding skip WHITESPACE COMMENT
+last-none o u = none-of (bytewise last) refl o u
+
+abbrev pub listOf : Rule → Peg → Peg
+listOf k x = rule k (inside x ~ opt (text ","))
+
+module _ (k : Rule) (x : Peg) (plain : is Rule.COMMENT k ≡ false) where
+  pub list-hit : (u : List ℕ) → hit (run (bytewise (listOf k x)) u) ≡ hit (run (bytewise x) u)
+  unfolding run
+  list-hit u = hit-seq (bytewise (inside x)) (bytewise last) u (hit-opt (text ",") _) ∙ inside-is x u
+
+  pub list-node : (o : ℕ) (u : List ℕ) → hit (run (bytewise x) u) ≡ true
+      → nodes (bytewise (listOf k x)) o u ≡ tree k o (taken (run (bytewise (listOf k x)) u)) (nodes (bytewise (inside x)) o u) nil
+  unfolding run
+  list-node o u h =
+      nodes-rule k (bytewise (inside x ~ opt (text ","))) o u plain (list-hit u ∙ h)
+      ∙ ap (λ (w : Forest). tree k o (taken (run (bytewise (listOf k x)) u)) w nil)
+      (nodes-seq (bytewise (inside x)) (bytewise last) o u (inside-hit x u h) (hit-opt (text ",") _)
+      ∙ ap (λ (w : Forest). nodes (bytewise (inside x)) o u ⊕ w) (last-none _ _) ∙ nil-right _)
+
+  pub list-none : (o : ℕ) (u : List ℕ) → hit (run (bytewise x) u) ≡ false → nodes (bytewise (listOf k x)) o u ≡ nil
+  list-none o u h = nodes-missed (bytewise (listOf k x)) o u (list-hit u ∙ h)
+
+  -- the items end inside the list
+  pub list-taken : (u : List ℕ) → hit (run (bytewise x) u) ≡ true → taken (run (bytewise (inside x)) u) ≤ taken (run (bytewise (listOf k x)) u)
+  unfolding run
+  list-taken u h = omega (arith, taken-after (run (bytewise (inside x)) u) (λ v. run (bytewise last) v) u (list-hit u ∙ h))
