@@ -1,0 +1,15 @@
+pub mod Totals
+pub mod Sorts
+pub mod Parted
+pub mod Lines
+pub mod FileNodes
+pub mod Matched
+pub mod Endianness
+pub mod Surveys
+pub mod SurveyLaws
+pub mod Accepts
+pub mod Outcomes
+pub mod OutcomeLaws
+pub mod Walks
+pub mod Rooms
+pub mod Promises

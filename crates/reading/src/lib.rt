@@ -1,0 +1,209 @@
+// A confession. Last year I signed off reels in which every face was green. The front end of that day placed the cyan
+// density three bits off for every stock but the one that our chart was shot on; the chart looked right, so I looked no
+// further. I am the senior colourist of this house, and the signature was mine. Since then I want each bit's place proved,
+// and not tried on one chart.
+//
+// The reading of a source into five lent tables.
+ghost use mathlib.Core.Path.{_≡_};
+ghost use Rattle.meaning.specs.Walk.{endianness};
+ghost use Rattle.meaning.specs.Reading.{refused, walked, reading, answer};
+ghost use Rattle.reading.specs.Matched.{Matched, whole};
+ghost use Rattle.reading.specs.Surveys.{surveyed, shortOf};
+ghost use Rattle.reading.specs.Outcomes.{lending, outcome, refusing, accepting};
+use crate::files::count_file;
+use crate::files::endianness;
+use crate::files::put_file;
+use declarations::files::file;
+use meaning::longest;
+
+mod files;
+
+// What a reading answers: the refusal number, 0 when accepted, with its place and reason; how many rows each table has; the
+// endianness and its place.
+pub struct Answer {
+    pub number: u64,
+    pub place: u64,
+    pub reason: u64,
+    pub counts: [u64; 5],
+    pub endianness: [u64; 7],
+}
+
+// What a source holds: its first refusal of 1 to 4, or the rows that each table needs.
+struct Survey {
+    number: u64,
+    place: usize,
+    reason: u64,
+    declarations: usize,
+    fields: usize,
+    tags: usize,
+    constraints: usize,
+    comments: usize,
+}
+
+// A table that is too short: its number, and the rows needed; 0 where none is.
+struct Short {
+    table: u64,
+    needed: usize,
+}
+
+// A refusal.
+fn refusal(number: u64, place: u64, reason: u64) -> Answer
+    ensures { λ r. ⌜ r ≡ refusing number place reason ⌝ }
+{
+    Answer {
+        number,
+        place,
+        reason,
+        counts: [0; 5],
+        endianness: [0; 7],
+    }
+}
+
+// A survey that ended with a refusal.
+fn refused(number: u64, place: usize, reason: u64) -> Survey
+    ensures { λ r. ⌜ r ≡ surveyed (refused number place reason) ⌝ }
+{
+    Survey {
+        number,
+        place,
+        reason,
+        declarations: 0,
+        fields: 0,
+        tags: 0,
+        constraints: 0,
+        comments: 0,
+    }
+}
+
+// The rows of a source that the grammar matches, or its first integer that does not convert.
+fn survey_rows(s: &[u8]) -> Survey
+    requires { ⌜ Matched (now s) ⌝ }
+    ensures { λ r. ⌜ r ≡ surveyed (walked (now (s .entry)) (whole (now (s .entry)))) ⌝ }
+{
+    let n = count_file(s);
+    if n.reason != 0 {
+        return refused(4, n.place, n.reason);
+    }
+    Survey {
+        number: 0,
+        place: 0,
+        reason: 0,
+        declarations: n.declarations,
+        fields: n.fields,
+        tags: n.tags,
+        constraints: n.constraints,
+        comments: comments::count_comments(s),
+    }
+}
+
+// Checks 1 to 4, each over the whole source.
+fn survey_of(s: &[u8]) -> Survey
+    ensures { λ r. ⌜ r ≡ surveyed (reading (now (s .entry))) ⌝ }
+{
+    let most = longest();
+    if most < s.len() {
+        return refused(1, most, 0);
+    }
+    let valid = text::valid_prefix(s);
+    if valid < s.len() {
+        return refused(2, valid, 0);
+    }
+    let f = file(s);
+    let whole = f.at;
+    let matched = grammar::took(whole);
+    if matched {} else {
+        return refused(3, f.place, 0);
+    }
+    survey_rows(s)
+}
+
+// The first table that is too short, by the lengths of all in words.
+fn first_short(x: Survey, lengths: [usize; 5]) -> Short
+    ensures { λ r. ⌜ r ≡ shortOf x lengths ⌝ }
+{
+    if lengths[0] / 17 < x.declarations {
+        return Short {
+            table: 1,
+            needed: x.declarations,
+        };
+    }
+    if lengths[1] / 20 < x.fields {
+        return Short {
+            table: 2,
+            needed: x.fields,
+        };
+    }
+    if lengths[2] / 12 < x.tags {
+        return Short {
+            table: 3,
+            needed: x.tags,
+        };
+    }
+    if lengths[3] / 12 < x.constraints {
+        return Short {
+            table: 4,
+            needed: x.constraints,
+        };
+    }
+    if lengths[4] / 7 < x.comments {
+        return Short {
+            table: 5,
+            needed: x.comments,
+        };
+    }
+    Short {
+        table: 0,
+        needed: 0,
+    }
+}
+
+// An accepted source's answer.
+fn accepted(s: &[u8], x: Survey) -> Answer
+    requires { ⌜ Matched (now s) ⌝ }
+    ensures { λ r. ⌜ r ≡ accepting x (endianness (now (s .entry)) (whole (now (s .entry)))) ⌝ }
+{
+    Answer {
+        number: 0,
+        place: 0,
+        reason: 0,
+        counts: [
+            x.declarations as u64,
+            x.fields as u64,
+            x.tags as u64,
+            x.constraints as u64,
+            x.comments as u64,
+        ],
+        endianness: endianness(s),
+    }
+}
+
+// Reads a source into five lent tables of words. Checks 1, 2, 3, 4 and 5 in that order; a refused reading changes no word.
+pub fn read(
+    src: &[u8],
+    declarations: &mut [u64],
+    fields: &mut [u64],
+    tags: &mut [u64],
+    constraints: &mut [u64],
+    comments: &mut [u64],
+) -> Answer
+    ensures { λ r. ⌜ outcome r (now (declarations .exit)) (now (fields .exit)) (now (tags .exit)) (now (constraints .exit)) (now (comments .exit)) ≡ answer (now (src .entry)) (lending (now (declarations .entry)) (now (fields .entry)) (now (tags .entry)) (now (constraints .entry)) (now (comments .entry))) ⌝ }
+{
+    let x = survey_of(src);
+    if x.number != 0 {
+        return refusal(x.number, x.place as u64, x.reason);
+    }
+    let lengths = [
+        declarations.len(),
+        fields.len(),
+        tags.len(),
+        constraints.len(),
+        comments.len(),
+    ];
+    let t = first_short(x, lengths);
+    if t.table != 0 {
+        return refusal(5, t.table, t.needed as u64);
+    }
+    put_file(src, declarations, fields, tags, constraints);
+    comments::write_comments(src, comments);
+    accepted(src, x)
+}
