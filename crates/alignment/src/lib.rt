@@ -4,6 +4,7 @@ ghost use mathlib.Core.Bool.{not};
 ghost use Rattle.meaning.specs.Tables.{put};
 ghost use Rattle.meaning.specs.Alignment.{world, staged, sound, due, bits-number, bytes-number, dyn-number, end-number, call, add-bitfield, add-bytes, add-dyn-bytes};
 ghost use Rattle.alignment.specs.Answers.{called, ended};
+use ast::numbers;
 use meaning::Aligner;
 
 // What a call answers: the refusal number, 0 when accepted, and the state after it.
@@ -23,22 +24,22 @@ fn sound_number(a: Aligner, placed: &[u64], chunks: &[u64]) -> u64
     ensures { λ r. ⌜ r ≡ sound (world a (now (placed .entry)) (now (chunks .entry))) ⌝ }
 {
     if 63 < a.width {
-        return 18;
+        return numbers::CONTRADICTORY_STATE;
     }
     if a.placed < a.start {
-        return 18;
+        return numbers::CONTRADICTORY_STATE;
     }
-    if placed.len() / 3 < a.placed {
-        return 18;
+    if placed.len() / numbers::PLACED_WORDS < a.placed {
+        return numbers::CONTRADICTORY_STATE;
     }
-    if chunks.len() / 5 < a.chunks {
-        return 18;
+    if chunks.len() / numbers::CHUNK_WORDS < a.chunks {
+        return numbers::CONTRADICTORY_STATE;
     }
     if a.start < a.placed {
         return 0;
     }
     if 0 < a.width {
-        return 18;
+        return numbers::CONTRADICTORY_STATE;
     }
     0
 }
@@ -65,17 +66,17 @@ fn bits_number(a: Aligner, placed: &[u64], chunks: &[u64], width: u64) -> u64
     ensures { λ r. ⌜ r ≡ bits-number width (world a (now (placed .entry)) (now (chunks .entry))) ⌝ }
 {
     if 0 < sound_number(a, placed, chunks) {
-        return 18;
+        return numbers::CONTRADICTORY_STATE;
     }
     if Aligner::MAX_CHUNK_WIDTH - a.width < width {
-        return 12;
+        return numbers::TOO_WIDE;
     }
-    if placed.len() / 3 <= a.placed {
-        return 13;
+    if placed.len() / numbers::PLACED_WORDS <= a.placed {
+        return numbers::TABLE_FULL;
     }
     if is_due(a.width + width) {
-        if chunks.len() / 5 <= a.chunks {
-            return 13;
+        if chunks.len() / numbers::CHUNK_WORDS <= a.chunks {
+            return numbers::TABLE_FULL;
         }
     }
     0
@@ -86,19 +87,19 @@ fn bytes_number(a: Aligner, placed: &[u64], chunks: &[u64], width: u64) -> u64
     ensures { λ r. ⌜ r ≡ bytes-number width (world a (now (placed .entry)) (now (chunks .entry))) ⌝ }
 {
     if 0 < sound_number(a, placed, chunks) {
-        return 18;
+        return numbers::CONTRADICTORY_STATE;
     }
     if !is_aligned(a) {
-        return 10;
+        return numbers::BYTES_WHILE_STAGED;
     }
     if 0 < width % 8 {
-        return 11;
+        return numbers::NOT_WHOLE_BYTES;
     }
     if Aligner::MAX_CHUNK_WIDTH < width {
-        return 12;
+        return numbers::TOO_WIDE;
     }
-    if chunks.len() / 5 <= a.chunks {
-        return 13;
+    if chunks.len() / numbers::CHUNK_WORDS <= a.chunks {
+        return numbers::TABLE_FULL;
     }
     0
 }
@@ -108,13 +109,13 @@ fn dyn_number(a: Aligner, placed: &[u64], chunks: &[u64]) -> u64
     ensures { λ r. ⌜ r ≡ dyn-number (world a (now (placed .entry)) (now (chunks .entry))) ⌝ }
 {
     if 0 < sound_number(a, placed, chunks) {
-        return 18;
+        return numbers::CONTRADICTORY_STATE;
     }
     if !is_aligned(a) {
-        return 10;
+        return numbers::BYTES_WHILE_STAGED;
     }
-    if chunks.len() / 5 <= a.chunks {
-        return 13;
+    if chunks.len() / numbers::CHUNK_WORDS <= a.chunks {
+        return numbers::TABLE_FULL;
     }
     0
 }
@@ -124,23 +125,23 @@ fn end_number(a: Aligner, placed: &[u64], chunks: &[u64]) -> u64
     ensures { λ r. ⌜ r ≡ end-number (world a (now (placed .entry)) (now (chunks .entry))) ⌝ }
 {
     if 0 < sound_number(a, placed, chunks) {
-        return 18;
+        return numbers::CONTRADICTORY_STATE;
     }
     if !is_aligned(a) {
-        return 16;
+        return numbers::END_WHILE_STAGED;
     }
     0
 }
 
 // A placed row into its table.
-fn put_placed(t: &mut [u64], k: usize, row: [u64; 3])
+fn put_placed(t: &mut [u64], k: usize, row: [u64; numbers::PLACED_WORDS])
     ensures { λ _. ⌜ now (t .exit) ≡ put 3 k row (now (t .entry)) ⌝ }
 {
     ast::put_row(t, k, &row);
 }
 
 // A chunk row into its table.
-fn put_chunk(t: &mut [u64], k: usize, row: [u64; 5])
+fn put_chunk(t: &mut [u64], k: usize, row: [u64; numbers::CHUNK_WORDS])
     ensures { λ _. ⌜ now (t .exit) ≡ put 5 k row (now (t .entry)) ⌝ }
 {
     ast::put_row(t, k, &row);

@@ -10,6 +10,7 @@ ghost use Rattle.byte_aligner.specs.Records.{held, recorded, call-to, al
 ghost use Rattle.byte_aligner.specs.Plans.{put-if, near-state, plan-of, Plans, Ends};
 use alignment::Called;
 use alignment::Ended;
+use ast::numbers;
 use meaning::Aligner;
 
 // Stages a bit field; a total that is due becomes one chunk row.
@@ -105,7 +106,7 @@ fn near(a: Aligner, rows: usize) -> Aligner
 }
 
 // The plan of a call that the core answered over one row: a record is due where the row was taken.
-fn planned(a: Aligner, rows: usize, r: Called, row: [u64; 5]) -> Plan
+fn planned(a: Aligner, rows: usize, r: Called, row: [u64; numbers::CHUNK_WORDS]) -> Plan
     ensures { λ p. ⌜ p ≡ plan-of a rows r row ⌝ }
 {
     let s = r.state;
@@ -150,7 +151,7 @@ fn planned(a: Aligner, rows: usize, r: Called, row: [u64; 5]) -> Plan
 fn plan_bitfield(a: Aligner, placed: &mut [u64], rows: usize, symbol: u64, width: u64) -> Plan
     ensures { λ p. ⌜ Plans (add-bitfield symbol width) a (now (placed .entry)) rows p (now (placed .exit)) ⌝ }
 {
-    let mut row: [u64; 5] = [0, 0, 0, 0, 0];
+    let mut row: [u64; numbers::CHUNK_WORDS] = [0, 0, 0, 0, 0];
     let near = near(a, rows);
     let r = alignment::add_bitfield(near, placed, &mut row, symbol, width);
     planned(a, rows, r, row)
@@ -160,7 +161,7 @@ fn plan_bitfield(a: Aligner, placed: &mut [u64], rows: usize, symbol: u64, width
 fn plan_bytes(a: Aligner, placed: &mut [u64], rows: usize, symbol: u64, width: u64) -> Plan
     ensures { λ p. ⌜ Plans (add-bytes symbol width) a (now (placed .entry)) rows p (now (placed .exit)) ⌝ }
 {
-    let mut row: [u64; 5] = [0, 0, 0, 0, 0];
+    let mut row: [u64; numbers::CHUNK_WORDS] = [0, 0, 0, 0, 0];
     let near = near(a, rows);
     let r = alignment::add_bytes(near, placed, &mut row, symbol, width);
     planned(a, rows, r, row)
@@ -170,7 +171,7 @@ fn plan_bytes(a: Aligner, placed: &mut [u64], rows: usize, symbol: u64, width: u
 fn plan_dyn_bytes(a: Aligner, placed: &mut [u64], rows: usize, symbol: u64) -> Plan
     ensures { λ p. ⌜ Plans (add-dyn-bytes symbol) a (now (placed .entry)) rows p (now (placed .exit)) ⌝ }
 {
-    let mut row: [u64; 5] = [0, 0, 0, 0, 0];
+    let mut row: [u64; numbers::CHUNK_WORDS] = [0, 0, 0, 0, 0];
     let near = near(a, rows);
     let r = alignment::add_dyn_bytes(near, placed, &mut row, symbol);
     planned(a, rows, r, row)
@@ -180,7 +181,7 @@ fn plan_dyn_bytes(a: Aligner, placed: &mut [u64], rows: usize, symbol: u64) -> P
 fn plan_end(a: Aligner, placed: &[u64], rows: usize) -> Ended
     ensures { λ r. ⌜ Ends a (now (placed .entry)) rows r ⌝ }
 {
-    let row: [u64; 5] = [0, 0, 0, 0, 0];
+    let row: [u64; numbers::CHUNK_WORDS] = [0, 0, 0, 0, 0];
     let near = near(a, rows);
     let r = alignment::align(near, placed, &row);
     if r.number != 0 {

@@ -7,6 +7,7 @@ ghost use lib.ListN.{length};
 ghost use Rattle.meaning.specs.Choice.{both};
 ghost use Rattle.comments.specs.Lex.{comment-count, left, written};
 ghost use Rattle.comments.specs.Steps.{Closed, Comment, Past, kind-of, words};
+use ast::numbers;
 use ast::put_row;
 use grammar::taken;
 use lexis::blanks::comment;
@@ -100,7 +101,7 @@ fn kind_at(s: &[u8], at: usize) -> u64
 }
 
 // A comment's row: its kind, and the places of its start and its end.
-fn comment_row(kind: u64, p: SourceLocation, q: SourceLocation) -> [u64; 7]
+fn comment_row(kind: u64, p: SourceLocation, q: SourceLocation) -> [u64; numbers::COMMENT_WORDS]
     ensures { λ r. ⌜ r ≡ words kind p q ⌝ }
 {
     [

@@ -26,7 +26,7 @@ use Rattle.walk.specs.StateLaws.{emits-append, noted-counts}
 use Rattle.walk.specs.SaidLaws.{said-token, noted-few, wider-few}
 use Rattle.walk.specs.Said.{said, tokenNumber}
 use Rattle.walk.specs.Insides.{held, constraint-inside, took-inside, InsideConstraint}
-use Rattle.walk.specs.Turns.{comma, rest, past, past-from, first-item}
+use Rattle.walk.specs.Turns.{comma, rest, past, Over, past-from, first-item}
 use Rattle.walk.specs.Nexts.{FoundAt, draws-at, found, none-comma, none-item}
 use Rattle.constraint_rows.specs.Constraints.{rowWords, Ready}
 use Rattle.constraint_rows.specs.Lists.{itemsOf, one-item, listNodes, Nexts, Listed, stop, WroteList, Turning}
@@ -101,10 +101,10 @@ module _ {src : List ℕ} {at : ℕ} {n : Walk} {t : List ℕ} {i : ℕ} {q : So
         ∙ ap (emits (parse-constraint-list src (rest constraint src (i + taken (c .at))))) (sym (one .done d f g))
 
     -- k is how much the code says that c took
-    pub turn-done : (k : ℕ) → k ≡ taken (c .at) → rest constraint src (i + k) ≡ nil → WroteList src at n r t v
+    pub turn-done : (k : ℕ) → k ≡ taken (c .at) → Over constraint src (i + k) → WroteList src at n r t v
     unfolding parse-constraint-list each emits
     turn-done k ek ez =
-        let e : rest constraint src (i + taken (c .at)) ≡ nil = ap (λ (x : ℕ). rest constraint src (i + x)) (sym ek) ∙ ez in
+        let e : rest constraint src (i + taken (c .at)) ≡ nil = ap (λ (x : ℕ). rest constraint src (i + x)) (sym ek) ∙ ez .nodes-are in
         record {
           wrote = record { done = λ d f g. sym (turn-left d f g ∙ ap (λ (x : Forest). emits (parse-constraint-list src x) (state r d f g v)) e) };
           few = wider-few r (i + taken (c .at)) (stop src at) (omega (arith, past-from constraint src (i + taken (c .at)), w .ends)) turn-few;

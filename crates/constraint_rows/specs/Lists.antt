@@ -9,7 +9,7 @@ use Rattle.meaning.specs.declared.Match.{Match}
 use Rattle.meaning.specs.declared.SourceLocation.{SourceLocation}
 use Rattle.meaning.specs.Rules.{Rule}
 use Rattle.meaning.specs.Peg.{run, bytewise, hit, taken}
-use Rattle.meaning.specs.Forest.{Forest, nil, tree, _⊕_, nodes}
+use Rattle.meaning.specs.Forest.{Forest, _⊕_, nodes}
 use Rattle.meaning.specs.Pdl.{text, _~_, repeat, constraint}
 use Rattle.meaning.specs.Places.{placeAt}
 use Rattle.meaning.specs.Tables.{Table, Item, row}
@@ -23,7 +23,7 @@ use Rattle.constraint_rows.specs.declared.Next.{Next}
 use Rattle.walk.specs.State.{State, state, emits, Few, WroteConstraints}
 use Rattle.walk.specs.Said.{said, tokenNumber}
 use Rattle.walk.specs.DrawnItems.{constraint-said, constraint-words}
-use Rattle.walk.specs.Turns.{rest, past}
+use Rattle.walk.specs.Turns.{rest, past, Over}
 use Rattle.walk.specs.Nexts.{FoundAt}
 use Rattle.constraint_rows.specs.Constraints.{rowWords}
 
@@ -44,7 +44,7 @@ listNodes src at = nodes (bytewise (constraint ~ repeat (text "," ~ constraint))
 
 -- what follows a constraint that ends at j
 pub record Nexts (src : List ℕ) (j : ℕ) (r : Next) : Type 0 where
-  pub none : r .found ≡ false → rest constraint src j ≡ nil
+  pub none : r .found ≡ false → Over constraint src j
   pub more : r .found ≡ true → FoundAt constraint src j (r .at) (r .item .at) (λ o. drawConstraint o (r .item .constraint))
 
 -- what the walk over a list asks: a constraint matches at `at`

@@ -6,6 +6,7 @@ ghost use Rattle.walk.specs.State.{WroteConstraints};
 ghost use Rattle.constraint_rows.specs.Constraints.{Placed, Ready, rowWords};
 ghost use Rattle.constraint_rows.specs.Lists.{itemsOf, Nexts, Listed, WroteList};
 ghost use Rattle.constraint_rows.specs.Spanned.{listed, Spanned, WroteSpan};
+use ast::numbers;
 use meaning::SourceLocation;
 use spans::Constraint;
 use spans::ConstraintMatch;
@@ -14,7 +15,13 @@ use walk::Number;
 use walk::Walk;
 
 // The row of a constraint whose spans are counted from `at`; p is the place of `at`.
-pub fn row_of(s: &[u8], at: usize, p: SourceLocation, c: Constraint, v: Number) -> [u64; 12]
+pub fn row_of(
+    s: &[u8],
+    at: usize,
+    p: SourceLocation,
+    c: Constraint,
+    v: Number,
+) -> [u64; numbers::CONSTRAINT_WORDS]
     requires { ⌜ Placed (now s) at p c v ⌝ }
     ensures { λ r. ⌜ r ≡ rowWords (now (s .entry)) at c ⌝ }
 {

@@ -95,3 +95,17 @@ module _ (r : Rule) (c : is Rule.COMMENT r ≡ false) (h l : Peg) (src : List �
         all .draws h3 at
         ∙ ap₂ (λ (n : ℕ) (v : Forest). tree r at n v nil) (ap taken (all .reads .is))
         (nil-right _ ∙ ap (λ (v : Forest). w at ⊕ v) (ap₂ (λ (i : ℕ) (u : List ℕ). nodes (bytewise l) i u) place-is rest-at))
+
+    -- where the whole ends: j is where the list does
+    pub braced-ends : (j : ℕ) → j ≡ listStart src at (taken m) + taken (run (bytewise l) (drop (listStart src at (taken m)) src))
+        → at + taken (run (bytewise (rule r (seq (seq h (seq skip l)) (seq skip (text "}"))))) (drop at src)) ≡ j + taken (run (bytewise (seq skip (text "}"))) (drop j src))
+    braced-ends j e =
+        let a : at + taken b2 ≡ j = omega (arith, e, taken-after b1 (λ u. run (bytewise l) u) t h2, place-is, ap (λ (u : List ℕ). taken (run (bytewise l) u)) rest-at) in
+        let b : drop (taken b2) (drop at src) ≡ drop j src = drop-drop (taken b2) at src ∙ ap (λ (i : ℕ). drop i src) a in
+        omega (
+          arith,
+          ap taken (all .reads .is),
+          taken-after b2 (λ u. run (bytewise (seq skip (text "}"))) u) t h3,
+          ap (λ (u : List ℕ). taken (run (bytewise (seq skip (text "}"))) u)) b,
+          a,
+        )

@@ -6,7 +6,7 @@ use mathlib.Core.List.{List, _++_}
 use mathlib.Core.Bool.{true}
 use lib.ListN.{length, drop}
 use Rattle.meaning.specs.declared.SourceLocation.{SourceLocation}
-use Rattle.meaning.specs.Peg.{bytewise, hit, taken}
+use Rattle.meaning.specs.Peg.{run, bytewise, hit, taken}
 use Rattle.meaning.specs.Forest.{nodes}
 use Rattle.meaning.specs.Pdl.{declaration, rules}
 use Rattle.meaning.specs.Places.{placeAt}
@@ -14,13 +14,13 @@ use Rattle.meaning.specs.Tables.{Table, Item, count, firstOf}
 use Rattle.meaning.specs.Walk.{parse-toplevel}
 use Rattle.grammar.specs.Matching.{eats}
 use Rattle.grammar.specs.Nodes.{hit-pos}
-use Rattle.declarations.specs.declared.DeclarationMatch.{DeclarationMatch}
-use Rattle.declarations.specs.Kinds.{Declares}
 use Rattle.walk.specs.declared.Walk.{Walk}
+use Rattle.walk.specs.declared.Walked.{Walked}
 use Rattle.walk.specs.State.{state, emits, Few}
 use Rattle.walk.specs.Said.{declarationWords}
 use Rattle.declaration_rows.specs.declared.heads.Headed.{Headed}
 use Rattle.declaration_rows.specs.Kinds.{Numbered}
+use Rattle.declaration_rows.specs.Keywords.{Known}
 use Rattle.declaration_rows.specs.Members.{membersOf}
 
 -- a declaration takes a byte
@@ -28,8 +28,8 @@ declaration-some : eats (bytewise declaration) ≡ true
 unfolding rules
 declaration-some = refl
 
-pub takes-byte : (t : List ℕ) (d : DeclarationMatch) → Declares t d → hit (d .at) ≡ true → 0 < taken (d .at)
-takes-byte t d h k = omega (arith, hit-pos (bytewise declaration) t declaration-some (ap hit (sym (h .reads .is)) ∙ k), ap taken (h .reads .is))
+pub takes-byte : (t : List ℕ) → hit (run (bytewise declaration) t) ≡ true → 0 < taken (run (bytewise declaration) t)
+takes-byte t h = hit-pos (bytewise declaration) t declaration-some h
 
 -- the items before a declaration, as the walk has counted them
 pub record Tallied (xs : List Item) (n : Walk) : Type 0 where
@@ -58,20 +58,21 @@ pub record Rowed (src : List ℕ) (p : SourceLocation) (k end : ℕ) (head : Hea
   pub grows : membersOf k (head .walk) ≤ membersOf k last
   pub lists : n .constraints ≤ head .walk .constraints
 
--- the declaration d matches at `at`
-pub record Ready (src : List ℕ) (at : ℕ) (p : SourceLocation) (d : DeclarationMatch) (n : Walk) : Type 0 where
+-- a declaration matches at `at`
+pub record Ready (src : List ℕ) (at : ℕ) (p : SourceLocation) (n : Walk) : Type 0 where
   pub within : at ≤ length src
   pub here : p ≡ placeAt src at
   pub few : Few n at
-  pub hits : hit (d .at) ≡ true
-  pub declares : Declares (drop at src) d
+  pub hits : hit (run (bytewise declaration) (drop at src)) ≡ true
 
 -- and is of a kind that has a row
-pub record ReadyKind (src : List ℕ) (at : ℕ) (p : SourceLocation) (d : DeclarationMatch) (n : Walk) : Type 0 where
-  pub ready : Ready src at p d n
-  pub numbered : Numbered (d .kind)
+pub record ReadyKind (src : List ℕ) (at : ℕ) (p : SourceLocation) (kind : ℕ) (n : Walk) : Type 0 where
+  pub ready : Ready src at p n
+  pub known : Known (drop at src) kind
+  pub numbered : Numbered kind
 
--- its rows and those of its parts, whatever items stand before it
-pub record WroteOne (src : List ℕ) (at : ℕ) (x : DeclarationMatch) (n r : Walk) (d d' f f' t t' c c' : List ℕ) : Type 0 where
-  pub wrote : (xs : List Item) → Tallied xs n → state r d' f' t' c' ≡ emits (parse-toplevel src xs (nodes (bytewise declaration) at (drop at src))) (state n d f t c)
-  pub few : Few r (at + taken (x .at))
+-- its rows and those of its parts, whatever items stand before it, and where it ends
+pub record WroteOne (src : List ℕ) (at : ℕ) (n : Walk) (r : Walked) (d d' f f' t t' c c' : List ℕ) : Type 0 where
+  pub wrote : (xs : List Item) → Tallied xs n → state (r .walk) d' f' t' c' ≡ emits (parse-toplevel src xs (nodes (bytewise declaration) at (drop at src))) (state n d f t c)
+  pub few : Few (r .walk) (r .end)
+  pub end : r .end ≡ at + taken (run (bytewise declaration) (drop at src))

@@ -4,23 +4,26 @@ use native.Mathlib.Omega.{arith}
 use mathlib.Core.Path.{_≡_, refl, ap, subst, sym, _∙_}
 use mathlib.Core.List.{List, [], _∷_, _++_, append-nil, append-assoc}
 use mathlib.Core.Bool.{true, false}
-use lib.ListN.{length, drop}
+use lib.ListN.{length, take, drop, length-drop}
 use Rattle.meaning.specs.declared.SourceLocation.{SourceLocation}
-use Rattle.meaning.specs.Peg.{bytewise, hit, taken}
+use Rattle.meaning.specs.Peg.{run, bytewise, hit, taken}
 use Rattle.meaning.specs.Forest.{Forest, nil, tree, _⊕_, nodes}
-use Rattle.meaning.specs.Pdl.{declaration}
+use Rattle.meaning.specs.Pdl.{skip, declaration}
 use Rattle.meaning.specs.Places.{placeAt}
 use Rattle.meaning.specs.Tables.{Table, Item, rowsOf, count}
 use Rattle.meaning.specs.Walk.{node, kinds, kindIn, parse-declaration, parse-kind, parse-toplevel}
+use Rattle.grammar.specs.Steps.{reads, rest-is}
+use Rattle.lexis.specs.Skips.{Skips}
 use Rattle.walk.specs.declared.Walk.{Walk}
+use Rattle.walk.specs.declared.Walked.{Walked}
 use Rattle.walk.specs.State.{State, state, fresh, emits, Few}
 use Rattle.walk.specs.StateLaws.{emits-append}
 use Rattle.walk.specs.SaidLaws.{wider-few}
 use Rattle.walk.specs.Insides.{took-inside}
 use Rattle.walk.specs.Counts.{count-append, Grown, grown}
-use Rattle.declaration_rows.specs.declared.Next.{Next}
 use Rattle.declaration_rows.specs.Declarations.{takes-byte, Tallied, Ready, WroteOne}
-use Rattle.declaration_rows.specs.Lists.{rest, Nexts, Begun, WroteAll}
+use Rattle.declaration_rows.specs.Lists.{rest, last, Reaches, Begun, WroteAll}
+use Rattle.declaration_rows.specs.NextLaws.{no-more, one-more, last-more, at-end, before-end}
 
 -- a declaration's items do not depend on what follows it
 same-kind : (src : List ℕ) (xs : List Item) (n s l : ℕ) (kids v w : Forest) → parse-kind src xs n (node s l kids v) ≡ parse-kind src xs n (node s l kids w)
@@ -58,6 +61,7 @@ tally xs ys n r a g =
 pub record Turning (src : List ℕ) (j : ℕ) (d f t c : List ℕ) (i : ℕ) (q : SourceLocation) (m : Walk) (d' f' t' c' : List ℕ) : Type 0 where
   pub within : i ≤ length src
   pub here : q ≡ placeAt src i
+  pub reaches : Reaches src i
   pub few : Few m i
   pub so-far : List Item
   pub tallied : Tallied so-far m
@@ -69,50 +73,60 @@ turn-start {src} {j} {p} d f t c b n e =
     rw e (record {
       within = b .within;
       here = b .here;
+      reaches = b .reaches;
       few = record { declarations = omega arith; fields = omega arith; tags = omega arith; constraints = omega arith };
       so-far = [];
       tallied = record { fields = refl; tags = refl; constraints = refl };
       left = refl;
     })
 
-module _ {src : List ℕ} {j : ℕ} {d f t c : List ℕ} {i : ℕ} {q : SourceLocation} {m : Walk} {d' f' t' c' : List ℕ} (w : Turning src j d f t c i q m d' f' t' c') (x : Next) (n : Nexts src i x) where
-  pub turn-done : x .found ≡ false → WroteAll src j m d d' f f' t t' c c'
+-- k blanks follow
+module _ {src : List ℕ} {j : ℕ} {d f t c : List ℕ} {i : ℕ} {q : SourceLocation} {m : Walk} {d' f' t' c' : List ℕ} (w : Turning src j d f t c i q m d' f' t' c') (k : ℕ)
+    (sk0 : Skips (take (length src - i) (drop i src)) k) where
+  sk : Skips (drop i src) k
+  sk = subst (λ (u : List ℕ). Skips u k) (rest-is i src) sk0
+
+  pub blank-in : i + k ≤ length src
+  blank-in = omega (arith, w .within, sk .fits, length-drop i src)
+
+  pub turn-done : i + k ≡ length src → WroteAll src j m d d' f f' t t' c c'
   unfolding parse-toplevel emits
-  turn-done h = record { done = sym (w .left ∙ ap (λ (v : Forest). emits (parse-toplevel src (w .so-far) v) (state m d' f' t' c')) (n .none h)) }
+  turn-done e =
+      record {
+        done = sym (w .left ∙ ap (λ (v : Forest). emits (parse-toplevel src (w .so-far) v) (state m d' f' t' c')) (no-more src i k sk (at-end src i k sk (w .within) e)));
+      }
 
-  module _ (h : x .found ≡ true) where
-    item-hits : hit (x .item .at) ≡ true
-    item-hits = sym (n .is) ∙ h
+  module _ (ne : i + k ≡ length src → ⊥) where
+    hits : hit (run (bytewise declaration) (drop (i + k) src)) ≡ true
+    hits = before-end src i k sk (w .reaches) ne
 
-    pub item-inside : x .at + taken (x .item .at) ≤ length src
-    item-inside = omega (arith, took-inside src (x .at) (n .within) (n .declares .reads), n .within)
+    pub turn-ready : {p : SourceLocation} → p ≡ placeAt src (i + k) → Ready src (i + k) p m
+    turn-ready e = record { within = blank-in; here = e; few = wider-few m i (i + k) (omega arith) (w .few); hits = hits }
 
-    -- k is how much the code says that the declaration took
-    pub turn-less : (k : ℕ) → k ≡ taken (x .item .at) → length src - (x .at + k) < length src - i
-    turn-less k e = omega (arith, e, takes-byte (drop (x .at) src) (x .item) (n .declares) item-hits, n .behind, item-inside)
+    module _ {r : Walked} {d'' f'' t'' c'' : List ℕ} (o : WroteOne src (i + k) m r d' d'' f' f'' t' t'' c' c'') where
+      pub end-in : (i + k ≤ r .end) × (r .end ≤ length src)
+      end-in =
+          let z : taken (run (bytewise declaration) (drop (i + k) src)) ≤ length src - (i + k) = took-inside src (i + k) blank-in (reads declaration (drop (i + k) src) _ refl) in
+          (omega (arith, o .end), omega (arith, o .end, z, blank-in))
 
-    pub turn-ready : {p : SourceLocation} → p ≡ placeAt src (x .at) → Ready src (x .at) p (x .item) m
-    turn-ready e = record { within = n .within; here = e; few = wider-few m i (x .at) (n .behind) (w .few); hits = item-hits; declares = n .declares }
+      pub turn-less : length src - r .end < length src - i
+      turn-less = omega (arith, o .end, takes-byte (drop (i + k) src) hits, end-in .1)
 
-    pub turn-more : {p : SourceLocation} {r : Walk} {d'' f'' t'' c'' : List ℕ} (k : ℕ) → k ≡ taken (x .item .at)
-        → WroteOne src (x .at) (x .item) m r d' d'' f' f'' t' t'' c' c'' → p ≡ placeAt src (x .at + k) → Turning src j d f t c (x .at + k) p r d'' f'' t'' c''
-    turn-more {p} {r} {d''} {f''} {t''} {c''} k ek o e =
-        rw ek (record {
-          within = item-inside;
-          here = e ∙ ap (λ (y : ℕ). placeAt src (x .at + y)) ek;
-          few = o .few;
-          so-far = w .so-far ++ ys;
-          tallied = tally (w .so-far) ys m r (w .tallied) (grown-is (o .wrote (w .so-far) (w .tallied)));
-          left =
-              w .left
-              ∙ ap (λ (v : Forest). emits (parse-toplevel src (w .so-far) v) (state m d' f' t' c')) (n .more h)
-              ∙ ap (λ (zs : List Item). emits zs (state m d' f' t' c')) (toplevel-⊕ src (w .so-far) (nodes (bytewise declaration) (x .at) (drop (x .at) src)) (rest src (x .at + taken (x .item .at))))
-              ∙ emits-append ys _ (state m d' f' t' c')
-              ∙ ap (λ (s : State). emits (parse-toplevel src (w .so-far ++ ys) (rest src (x .at + taken (x .item .at)))) s) (sym (o .wrote (w .so-far) (w .tallied)));
-        })
-      where
-        ys : List Item
-        ys = parse-toplevel src (w .so-far) (nodes (bytewise declaration) (x .at) (drop (x .at) src))
-
-        grown-is : state r d'' f'' t'' c'' ≡ emits ys (state m d' f' t' c') → Grown ys m r
-        grown-is z = subst (λ (s : State). Grown ys m (s .n)) (sym z) (grown ys (state m d' f' t' c'))
+      pub turn-more : {p : SourceLocation} → p ≡ placeAt src (r .end) → Turning src j d f t c (r .end) p (r .walk) d'' f'' t'' c''
+      turn-more {p} e =
+          let ys : List Item = parse-toplevel src (w .so-far) (nodes (bytewise declaration) (i + k) (drop (i + k) src)) in
+          let g : Grown ys m (r .walk) = subst (λ (s : State). Grown ys m (s .n)) (sym (o .wrote (w .so-far) (w .tallied))) (grown ys (state m d' f' t' c')) in
+          record {
+            within = end-in .1;
+            here = e;
+            reaches = subst (λ (l : ℕ). l + taken (run (bytewise skip) (drop l src)) ≡ length src) (last-more src i k sk hits ∙ ap (last src) (sym (o .end))) (w .reaches);
+            few = o .few;
+            so-far = w .so-far ++ ys;
+            tallied = tally (w .so-far) ys m (r .walk) (w .tallied) g;
+            left =
+                w .left
+                ∙ ap (λ (v : Forest). emits (parse-toplevel src (w .so-far) v) (state m d' f' t' c')) (one-more src i k sk hits ∙ ap (λ (l : ℕ). nodes (bytewise declaration) (i + k) (drop (i + k) src) ⊕ rest src l) (sym (o .end)))
+                ∙ ap (λ (zs : List Item). emits zs (state m d' f' t' c')) (toplevel-⊕ src (w .so-far) (nodes (bytewise declaration) (i + k) (drop (i + k) src)) (rest src (r .end)))
+                ∙ emits-append ys _ (state m d' f' t' c')
+                ∙ ap (λ (s : State). emits (parse-toplevel src (w .so-far ++ ys) (rest src (r .end))) s) (sym (o .wrote (w .so-far) (w .tallied)));
+          }

@@ -1,10 +1,10 @@
 -- What follows a declaration: blanks and the next one, or no more of them.
-use Prim.Native.Nat.{ℕ, _+_, _-_, _≤_}
+use Prim.Native.Nat.{ℕ, _+_, _≤_}
 use native.Mathlib.Omega.{arith}
-use mathlib.Core.Path.{_≡_, refl, ap, ap₂, subst, sym, _∙_}
+use mathlib.Core.Path.{_≡_, refl, ap, ap₂, _∙_}
 use mathlib.Core.List.{List}
 use mathlib.Core.Bool.{Bool, true, false}
-use lib.ListN.{length, take, drop, length-drop}
+use lib.ListN.{length, drop}
 use lib.Seq.{drop-drop}
 use Rattle.meaning.specs.declared.Match.{Match}
 use Rattle.meaning.specs.declared.Match.the-variants.{Missed, Took}
@@ -12,21 +12,23 @@ use Rattle.meaning.specs.Choice.{pick}
 use Rattle.meaning.specs.Peg.{seq, star, join, after, run, bytewise, hit, taken}
 use Rattle.meaning.specs.Forest.{Forest, nil, _⊕_, nodes}
 use Rattle.meaning.specs.Pdl.{skip, declaration}
-use Rattle.grammar.specs.Steps.{rest-is}
-use Rattle.grammar.specs.Nodes.{taken-join, nodes-seq, nodes-star}
+use Rattle.grammar.specs.Steps.{reads}
+use Rattle.grammar.specs.Stars.{unroll}
+use Rattle.grammar.specs.Nodes.{taken-join, hit-star, nodes-seq, nodes-star}
 use Rattle.lexis.specs.Skips.{Skips}
 use Rattle.lexis.specs.Leaves.{skip-none}
-use Rattle.declarations.specs.Kinds.{Declares}
 use Rattle.declarations.specs.Files.{declaration-eats}
-use Rattle.declaration_rows.specs.declared.Next.{Next}
-use Rattle.declaration_rows.specs.Lists.{rest, Nexts}
+use Rattle.walk.specs.Insides.{took-inside}
+use Rattle.walk.specs.Repeats.{star-none, again-taken}
+use Rattle.declaration_rows.specs.Declarations.{takes-byte}
+use Rattle.declaration_rows.specs.Lists.{rest, last, Reaches}
 
 join-hit : (n f : ℕ) (m : Match) → hit (join n f m) ≡ hit m
 join-hit n f (Missed g) = refl
 join-hit n f (Took k g) = refl
 
 module _ (src : List ℕ) (j k : ℕ) (sk : Skips (drop j src) k) where
-  abbrev next : Match
+  abbrev pub next : Match
   next = run (bytewise declaration) (drop (j + k) src)
 
   -- a turn is a blank run of k bytes and a declaration
@@ -59,10 +61,10 @@ module _ (src : List ℕ) (j k : ℕ) (sk : Skips (drop j src) k) where
       nodes-star (bytewise (seq skip declaration)) j (drop j src) declaration-eats
       ∙ ap (λ (b : Bool). pick b (nodes (bytewise (seq skip declaration)) j (drop j src) ⊕ following) nil) turn-hit
 
-  no-more : hit next ≡ false → rest src j ≡ nil
+  pub no-more : hit next ≡ false → rest src j ≡ nil
   no-more h = unrolled ∙ ap (λ (b : Bool). pick b (nodes (bytewise (seq skip declaration)) j (drop j src) ⊕ following) nil) h
 
-  one-more : hit next ≡ true → rest src j ≡ nodes (bytewise declaration) (j + k) (drop (j + k) src) ⊕ rest src (j + k + taken next)
+  pub one-more : hit next ≡ true → rest src j ≡ nodes (bytewise declaration) (j + k) (drop (j + k) src) ⊕ rest src (j + k + taken next)
   unfolding rest
   one-more h =
       let n : taken (run (bytewise (seq skip declaration)) (drop j src)) ≡ k + taken next = turn-taken h in
@@ -73,21 +75,40 @@ module _ (src : List ℕ) (j k : ℕ) (sk : Skips (drop j src) k) where
       (ap₂ (λ (o : ℕ) (u : List ℕ). nodes (star (bytewise (seq skip declaration))) o u) (omega (arith, n))
       (ap (λ (i : ℕ). drop i (drop j src)) n ∙ drop-drop (k + taken next) j src ∙ ap (λ (i : ℕ). drop i src) z))
 
--- the answer of `next_one`
-pub next-is : (src : List ℕ) (j k : ℕ) (x : Next) → j ≤ length src → Skips (take (length src - j) (drop j src)) k → x .at ≡ j + k
-    → Declares (take (length src - x .at) (drop (x .at) src)) (x .item) → x .found ≡ hit (x .item .at) → Nexts src j x
-next-is src j k x w sk0 ex dc0 f =
-    let sk : Skips (drop j src) k = subst (λ (u : List ℕ). Skips u k) (rest-is j src) sk0 in
-    let dc : Declares (drop (x .at) src) (x .item) = subst (λ (u : List ℕ). Declares u (x .item)) (rest-is (x .at) src) dc0 in
-    let here : run (bytewise declaration) (drop (j + k) src) ≡ x .item .at
-    = ap (λ (i : ℕ). run (bytewise declaration) (drop i src)) (sym ex) ∙ sym (dc .reads .is) in
-    record {
-      within = omega (arith, ex, sk .fits, length-drop j src);
-      behind = omega (arith, ex);
-      declares = dc;
-      is = f;
-      none = λ h. no-more src j k sk (ap hit here ∙ sym f ∙ h);
-      more = λ h.
-          one-more src j k sk (ap hit here ∙ sym f ∙ h)
-          ∙ ap₂ (λ (i : ℕ) (m : Match). nodes (bytewise declaration) i (drop i src) ⊕ rest src (i + taken m)) (sym ex) here;
-    }
+  -- where the last of them ends
+  last-none : hit next ≡ false → last src j ≡ j
+  unfolding last
+  last-none h = omega (arith, star-none (bytewise (seq skip declaration)) declaration-eats (drop j src) (turn-hit ∙ h))
+
+  pub last-more : hit next ≡ true → last src j ≡ last src (j + k + taken next)
+  unfolding last
+  last-more h =
+      let n : taken (run (bytewise (seq skip declaration)) (drop j src)) ≡ k + taken next = turn-taken h in
+      let z : j + (k + taken next) ≡ j + k + taken next = omega arith in
+      omega (
+        arith,
+        ap taken (unroll (bytewise (seq skip declaration)) declaration-eats (drop j src))
+            ∙ again-taken (run (bytewise (seq skip declaration)) (drop j src)) (λ u. run (star (bytewise (seq skip declaration))) u) (drop j src) (turn-hit ∙ h) (λ u. hit-star (bytewise (seq skip declaration)) u),
+        n,
+        ap (λ (u : List ℕ). taken (run (star (bytewise (seq skip declaration))) u))
+            (ap (λ (i : ℕ). drop i (drop j src)) n ∙ drop-drop (k + taken next) j src ∙ ap (λ (i : ℕ). drop i src) z),
+      )
+
+  -- at the end of the source no declaration follows; before it, one does
+  pub at-end : j ≤ length src → j + k ≡ length src → hit next ≡ false
+  at-end w e = go (hit next) refl
+    where
+      go : (b : Bool) → hit next ≡ b → hit next ≡ false
+      go false q = q
+      go true q =
+          absurd
+          (omega (arith, takes-byte (drop (j + k) src) q, took-inside src (j + k) (omega arith) (reads declaration (drop (j + k) src) _ refl)))
+
+  pub before-end : Reaches src j → (j + k ≡ length src → ⊥) → hit next ≡ true
+  before-end r e = go (hit next) refl
+    where
+      go : (b : Bool) → hit next ≡ b → hit next ≡ true
+      go true q = q
+      go false q =
+          let z : last src j ≡ j = last-none q in
+          absurd (e (omega (arith, r, z, ap (λ (i : ℕ). taken (run (bytewise skip) (drop i src))) z, ap taken (sk .is))))

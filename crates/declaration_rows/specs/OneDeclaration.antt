@@ -15,13 +15,13 @@ use Rattle.meaning.specs.Pdl.{skip, enum-tag, constraint-list, declaration}
 use Rattle.meaning.specs.Places.{placeAt}
 use Rattle.meaning.specs.Tables.{Table, Item, row, rowsOf, count, firstOf}
 use Rattle.meaning.specs.Walk.{node, part, kinds, kindIn, parse-kind, parse-declaration, parse-toplevel}
-use Rattle.grammar.specs.Steps.{rest-is}
+use Rattle.grammar.specs.Steps.{reads, rest-is}
 use Rattle.lexis.specs.Skips.{Skips}
 use Rattle.spans.specs.declared.Header.{Header}
 use Rattle.spans.specs.Drawn.{drawHeader, listAt, onlyIdentifier, onlyInteger, onlyText}
-use Rattle.declarations.specs.declared.DeclarationMatch.{DeclarationMatch}
 use Rattle.declarations.specs.Kinds.{declared}
 use Rattle.walk.specs.declared.Walk.{Walk}
+use Rattle.walk.specs.declared.Walked.{Walked}
 use Rattle.walk.specs.State.{State, state, emits, Few, PutDeclaration}
 use Rattle.walk.specs.StateLaws.{emits-append}
 use Rattle.walk.specs.SaidLaws.{wider-few}
@@ -35,8 +35,8 @@ use Rattle.field_rows.specs.Counts.{soFar, soFar-count}
 use Rattle.declaration_rows.specs.declared.heads.Headed.{Headed}
 use Rattle.declaration_rows.specs.Kinds.{Kind, kindOf, HeadOf, Numbered, n1, n2, n3, n4, n5, n6, number-is}
 use Rattle.declaration_rows.specs.Braces.{listStart, inside, list-within}
-use Rattle.declaration_rows.specs.Members.{memberNodes, memberItems, membersOf, Membered, WroteMembers}
-use Rattle.declaration_rows.specs.Wholes.{Whole, whole}
+use Rattle.declaration_rows.specs.Members.{memberNodes, memberEnd, member-end-in, memberItems, membersOf, Membered, WroteMembers}
+use Rattle.declaration_rows.specs.Wholes.{declarationEnd, Whole, whole}
 use Rattle.declaration_rows.specs.Heads.{headItems, HeadAt, WroteHead, held-head, held-list, head-inside}
 use Rattle.declaration_rows.specs.Said.{declarationItems, declaration-said}
 use Rattle.declaration_rows.specs.Sorts.{no-declarations}
@@ -63,28 +63,32 @@ put-few {ws} {m} {r} {d} {d'} k put e h =
     subst (λ (s : State). Few (s .n) k) (sym (put .done [] [] []))
     (record { declarations = omega (arith, e); fields = h .fields; tags = h .tags; constraints = h .constraints })
 
-module _ (src : List ℕ) (at : ℕ) {p : SourceLocation} (x : DeclarationMatch) {n : Walk} (w : ReadyKind src at p x n) (h : Header)
-    (d : HeadOf (kindOf (x .kind)) (take (length src - at) (drop at src)) h) where
+module _ (src : List ℕ) (at : ℕ) {p : SourceLocation} (kind : ℕ) {n : Walk} (w : ReadyKind src at p kind n) (h : Header)
+    (d : HeadOf (kindOf kind) (take (length src - at) (drop at src)) h) where
   abbrev z : Kind
-  z = kindOf (x .kind)
+  z = kindOf kind
 
   headed : HeadOf z (drop at src) h
   headed = subst (λ (u : List ℕ). HeadOf z u h) (rest-is at src) d
 
-  there : hit (run (bytewise (declared (x .kind))) (drop at src)) ≡ true
-  there = w .ready .declares .hits (w .ready .hits)
+  there : hit (run (bytewise (declared kind)) (drop at src)) ≡ true
+  there = sym (w .known .known .hits) ∙ w .ready .hits
 
-  all : Whole src at (x .kind) h
+  all : Whole src at kind h
   all = whole src at h (w .numbered) headed there
 
-  long : taken (run (bytewise (declared (x .kind))) (drop at src)) ≡ taken (x .at)
-  long = sym (w .ready .declares .takes (w .ready .hits)) ∙ ap taken (sym (w .ready .declares .reads .is))
+  -- how much the declaration takes
+  abbrev whole-len : ℕ
+  whole-len = taken (run (bytewise declaration) (drop at src))
 
-  pub ends : at + taken (x .at) ≤ length src
-  ends = omega (arith, took-inside src at (w .ready .within) (w .ready .declares .reads), w .ready .within)
+  long : taken (run (bytewise (declared kind)) (drop at src)) ≡ whole-len
+  long = sym (w .known .known .takes)
 
-  some-byte : 0 < taken (x .at)
-  some-byte = takes-byte (drop at src) x (w .ready .declares) (w .ready .hits)
+  pub ends : at + whole-len ≤ length src
+  ends = omega (arith, took-inside src at (w .ready .within) (reads declaration (drop at src) _ refl), w .ready .within)
+
+  some-byte : 0 < whole-len
+  some-byte = takes-byte (drop at src) (w .ready .hits)
 
   -- ---- the head
   pub head-ends : at + taken (h .at) ≤ length src
@@ -110,10 +114,10 @@ module _ (src : List ℕ) (at : ℕ) {p : SourceLocation} (x : DeclarationMatch)
     start-in = omega (arith, start-is, list-within src at (taken (h .at)) head-ends)
 
   -- ---- the nodes of the whole lie inside it
-  held-kids : Held at (at + taken (x .at)) (drawHeader (z .keyword) at (drop at src) h ⊕ memberNodes src (x .kind) (listStart src at (taken (h .at))))
+  held-kids : Held at (at + whole-len) (drawHeader (z .keyword) at (drop at src) h ⊕ memberNodes src kind (listStart src at (taken (h .at))))
   held-kids =
-      subst (λ (v : Forest). Held at (at + taken (x .at)) v) (all .nodes-are)
-      (subst (λ (i : ℕ). Held at (at + i) (nodes (bytewise (declared (x .kind))) at (drop at src))) long (nodes-held (bytewise (declared (x .kind))) at (drop at src)))
+      subst (λ (v : Forest). Held at (at + whole-len) v) (all .nodes-are)
+      (subst (λ (i : ℕ). Held at (at + i) (nodes (bytewise (declared kind)) at (drop at src))) long (nodes-held (bytewise (declared kind)) at (drop at src)))
       .1 .1 .0
 
   -- ---- behind the head
@@ -124,17 +128,17 @@ module _ (src : List ℕ) (at : ℕ) {p : SourceLocation} (x : DeclarationMatch)
         (hw .few at (at + taken (h .at)) (omega arith) (held-list src at z h headed (all .headed) at (at + taken (h .at)) (held-head src at z h headed (all .headed) at)))
 
     -- so far as the whole declaration goes
-    whole-few : Few (r .walk) (at + taken (x .at))
+    whole-few : Few (r .walk) (at + whole-len)
     whole-few =
-        hw .few at (at + taken (x .at)) (omega arith)
-        (held-list src at z h headed (all .headed) at (at + taken (x .at))
-        (held-left at (at + taken (x .at)) (drawHeader (z .keyword) at (drop at src) h) (memberNodes src (x .kind) (listStart src at (taken (h .at)))) held-kids))
+        hw .few at (at + whole-len) (omega arith)
+        (held-list src at z h headed (all .headed) at (at + whole-len)
+        (held-left at (at + whole-len) (drawHeader (z .keyword) at (drop at src) h) (memberNodes src kind (listStart src at (taken (h .at)))) held-kids))
 
     head-grown : Grown (headItems src at h) n (r .walk)
     head-grown = subst (λ (s : State). Grown (headItems src at h) n (s .n)) (sym (hw .wrote [] [] [])) (grown (headItems src at h) (state n [] [] [] c))
 
     module _ (i : ℕ) (ei : i ≡ listStart src at (taken (h .at))) where
-      pub members-ready : {q : SourceLocation} → q ≡ placeAt src i → Membered src i q (x .kind) (r .walk)
+      pub members-ready : {q : SourceLocation} → q ≡ placeAt src i → Membered src i q kind (r .walk)
       members-ready e =
           record {
             within = omega (arith, ei, list-within src at (taken (h .at)) head-ends);
@@ -144,19 +148,22 @@ module _ (src : List ℕ) (at : ℕ) {p : SourceLocation} (x : DeclarationMatch)
           }
 
       -- ---- behind the members
-      module _ {m : Walk} {f f' t t' c'' : List ℕ} (mw : WroteMembers src i (x .kind) (r .walk) m f f' t t' c' c'') where
-        member-grown : (xs : List Item) → count Table.constraints xs ≡ r .walk .constraints → Grown (memberItems src xs (x .kind) i) (r .walk) m
-        member-grown xs e =
-            subst (λ (s : State). Grown (memberItems src xs (x .kind) i) (r .walk) (s .n)) (sym (mw .wrote xs e [])) (grown (memberItems src xs (x .kind) i) (state (r .walk) [] f t c'))
+      module _ {y : Walked} {f f' t t' c'' : List ℕ} (mw : WroteMembers src i kind (r .walk) y f f' t t' c' c'') where
+        abbrev m : Walk
+        m = y .walk
 
-        some-grown : Grown (memberItems src (soFar (r .walk .constraints)) (x .kind) i) (r .walk) m
+        member-grown : (xs : List Item) → count Table.constraints xs ≡ r .walk .constraints → Grown (memberItems src xs kind i) (r .walk) m
+        member-grown xs e =
+            subst (λ (s : State). Grown (memberItems src xs kind i) (r .walk) (s .n)) (sym (mw .wrote xs e [])) (grown (memberItems src xs kind i) (state (r .walk) [] f t c'))
+
+        some-grown : Grown (memberItems src (soFar (r .walk .constraints)) kind i) (r .walk) m
         some-grown = member-grown (soFar (r .walk .constraints)) (soFar-count (r .walk .constraints))
 
-        member-few : Few m (at + taken (x .at))
+        member-few : Few m (at + whole-len)
         member-few =
-            mw .few at (at + taken (x .at)) whole-few
-            (subst (λ (j : ℕ). Held at (at + taken (x .at)) (memberNodes src (x .kind) j)) (sym ei)
-            (held-right at (at + taken (x .at)) (drawHeader (z .keyword) at (drop at src) h) (memberNodes src (x .kind) (listStart src at (taken (h .at)))) held-kids))
+            mw .few at (at + whole-len) whole-few
+            (subst (λ (j : ℕ). Held at (at + whole-len) (memberNodes src kind j)) (sym ei)
+            (held-right at (at + whole-len) (drawHeader (z .keyword) at (drop at src) h) (memberNodes src kind (listStart src at (taken (h .at)))) held-kids))
 
         -- no declaration stands inside another
         same-declarations : m .declarations ≡ n .declarations
@@ -166,17 +173,26 @@ module _ (src : List ℕ) (at : ℕ) {p : SourceLocation} (x : DeclarationMatch)
               some-grown .declarations,
               head-grown .declarations,
               no-declarations (head-sorted src at h),
-              no-declarations (members-sorted src (soFar (r .walk .constraints)) (x .kind) i),
+              no-declarations (members-sorted src (soFar (r .walk .constraints)) kind i),
             )
+
+        -- where the members end, and the whole: e is where the head does
+        pub members-in : y .end ≤ length src
+        members-in = omega (arith, mw .end, member-end-in src kind i (omega (arith, ei, list-within src at (taken (h .at)) head-ends)))
+
+        pub end-is : (e j : ℕ) → e ≡ at + taken (h .at) → j ≡ declarationEnd src kind e (y .end) → j ≡ at + whole-len
+        end-is e j ee ej =
+            ej ∙ ap₂ (λ (a b : ℕ). declarationEnd src kind a b) ee (mw .end ∙ ap (λ (b : ℕ). memberEnd src kind b) ei)
+            ∙ sym (all .ends) ∙ ap (λ (b : ℕ). at + b) long
 
         pub room : length src < 2 ^ 64 → m .declarations + 1 < 2 ^ 64
         room s = omega (arith, same-declarations, w .ready .few .declarations, some-byte, ends)
 
-        pub row-ready : (e : ℕ) → e ≡ taken (x .at) → Rowed src p (x .kind) (at + e) r n m
+        pub row-ready : (e : ℕ) → e ≡ at + whole-len → Rowed src p kind e r n m
         row-ready e ee =
             record {
-              placed = ready src at (at + e) p (w .ready .here) (omega arith) (omega (arith, ends));
-              grows = omega (arith, own-grown (x .kind) some-grown);
+              placed = ready src at e p (w .ready .here) (omega (arith, ee)) (omega (arith, ends));
+              grows = omega (arith, own-grown kind some-grown);
               lists = omega (arith, head-grown .constraints);
             }
 
@@ -186,43 +202,43 @@ module _ (src : List ℕ) (at : ℕ) {p : SourceLocation} (x : DeclarationMatch)
           cs = spanItems src at (h .constraints)
 
           abbrev ms : List Item
-          ms = memberItems src (xs ++ cs) (x .kind) i
+          ms = memberItems src (xs ++ cs) kind i
 
           counted : count Table.constraints (xs ++ cs) ≡ r .walk .constraints
           counted = count-append Table.constraints xs cs ∙ omega (arith, a .constraints, head-grown .constraints, head-constraints src at h)
 
-          row-words : (e : ℕ) → e ≡ taken (x .at) → declarationRow src p (x .kind) (at + e) r n m
-              ≡ declarationWords (x .kind) (placeAt src at) (placeAt src (at + taken (run (bytewise (declared (x .kind))) (drop at src)))) (spanName at (h .id)) (otherName at (onlyIdentifier (h .parent)) (onlyText (h .function)))
-              (tokenNumber src at (onlyInteger (h .width))) (firstOf (count (own (x .kind)) xs) (count (own (x .kind)) ms)) (count (own (x .kind)) ms) (firstOf (count Table.constraints xs) (count Table.constraints cs)) (count Table.constraints cs)
+          row-words : (e : ℕ) → e ≡ at + whole-len → declarationRow src p kind e r n m
+              ≡ declarationWords kind (placeAt src at) (placeAt src (at + taken (run (bytewise (declared kind)) (drop at src)))) (spanName at (h .id)) (otherName at (onlyIdentifier (h .parent)) (onlyText (h .function)))
+              (tokenNumber src at (onlyInteger (h .width))) (firstOf (count (own kind) xs) (count (own kind) ms)) (count (own kind) ms) (firstOf (count Table.constraints xs) (count Table.constraints cs)) (count Table.constraints cs)
           unfolding declarationRow
           row-words e ee =
-              let q : at + e ≡ at + taken (run (bytewise (declared (x .kind))) (drop at src)) = omega (arith, ee, long) in
-              let k : membersOf (x .kind) m - membersOf (x .kind) (r .walk) ≡ count (own (x .kind)) ms = omega (arith, own-grown (x .kind) (member-grown (xs ++ cs) counted)) in
+              let q : e ≡ at + taken (run (bytewise (declared kind)) (drop at src)) = omega (arith, ee, long) in
+              let k : membersOf kind m - membersOf kind (r .walk) ≡ count (own kind) ms = omega (arith, own-grown kind (member-grown (xs ++ cs) counted)) in
               let l : r .walk .constraints - n .constraints ≡ count Table.constraints cs = omega (arith, head-grown .constraints, head-constraints src at h) in
-              rw (w .ready .here, q, hw .id, hw .other, hw .width, k, l, sym (own-tallied (x .kind) a), sym (a .constraints))
+              rw (w .ready .here, q, hw .id, hw .other, hw .width, k, l, sym (own-tallied kind a), sym (a .constraints))
 
           -- ---- the items
           abbrev len : ℕ
-          len = taken (run (bytewise (declared (x .kind))) (drop at src))
+          len = taken (run (bytewise (declared kind)) (drop at src))
 
-          view : Seen src (x .kind) i
-          view = seen src (x .kind) i (λ k. ap (λ (j : ℕ). hit (run (bytewise enum-tag) (drop j src))) ei ∙ all .tagged k)
+          view : Seen src kind i
+          view = seen src kind i (λ k. ap (λ (j : ℕ). hit (run (bytewise enum-tag) (drop j src))) ei ∙ all .tagged k)
 
           nodes-seen : nodes (bytewise declaration) at (drop at src) ≡ tree (z .root) at len (drawHeader (z .keyword) at (drop at src) h ⊕ view .forest) nil
           nodes-seen =
-              w .ready .declares .which (w .ready .hits) at
+              w .known .known .nodes-are (w .ready .hits) at
               ∙ all .nodes-are
-              ∙ ap (λ (v : Forest). tree (z .root) at len (drawHeader (z .keyword) at (drop at src) h ⊕ v) nil) (ap (λ (j : ℕ). memberNodes src (x .kind) j) (sym ei) ∙ view .is)
+              ∙ ap (λ (v : Forest). tree (z .root) at len (drawHeader (z .keyword) at (drop at src) h ⊕ v) nil) (ap (λ (j : ℕ). memberNodes src kind j) (sym ei) ∙ view .is)
 
           items-are : parse-toplevel src xs (nodes (bytewise declaration) at (drop at src))
-              ≡ declarationItems src (x .kind) at len h cs ms (count (own (x .kind)) xs) (count (own (x .kind)) ms) (count Table.constraints xs) (count Table.constraints cs)
+              ≡ declarationItems src kind at len h cs ms (count (own kind) xs) (count (own kind) ms) (count Table.constraints xs) (count Table.constraints cs)
           items-are =
               ap (λ (v : Forest). parse-toplevel src xs v) nodes-seen
               ∙ one-node (w .numbered) src xs at len (drawHeader (z .keyword) at (drop at src) h ⊕ view .forest)
-              ∙ declaration-said src xs (x .kind) at len (drop at src) (z .keyword) h (view .members) nil (one-at at (drop at src) (h .constraints))
-              ∙ ap₂ (λ (ys : List Item) (u : Table). declarationItems src (x .kind) at len h cs ys (count u xs) (count u ys) (count Table.constraints xs) (count Table.constraints cs)) (view .items (xs ++ cs)) (view .table)
+              ∙ declaration-said src xs kind at len (drop at src) (z .keyword) h (view .members) nil (one-at at (drop at src) (h .constraints))
+              ∙ ap₂ (λ (ys : List Item) (u : Table). declarationItems src kind at len h cs ys (count u xs) (count u ys) (count Table.constraints xs) (count Table.constraints cs)) (view .items (xs ++ cs)) (view .table)
 
-          done : {r' : Walk} {d d' ws : List ℕ} (e : ℕ) → e ≡ taken (x .at) → ws ≡ declarationRow src p (x .kind) (at + e) r n m → PutDeclaration ws m r' d d'
+          done : {r' : Walk} {d d' ws : List ℕ} (e : ℕ) → e ≡ at + whole-len → ws ≡ declarationRow src p kind e r n m → PutDeclaration ws m r' d d'
               → state r' d' f' t' c'' ≡ emits (parse-toplevel src xs (nodes (bytewise declaration) at (drop at src))) (state n d f t c)
           unfolding declarationItems
           done {r'} {d} {d'} {ws} e ee er put =
@@ -232,10 +248,11 @@ module _ (src : List ℕ) (at : ℕ) {p : SourceLocation} (x : DeclarationMatch)
               ∙ ap (λ (us : List ℕ). emits (headItems src at h ++ ms ++ row Table.declarations us ∷ []) (state n d f t c)) (er ∙ row-words e ee)
               ∙ ap (λ (ys : List Item). emits ys (state n d f t c)) (sym items-are)
 
-        pub one-done : {r' : Walk} {d d' ws : List ℕ} (e : ℕ) → e ≡ taken (x .at) → ws ≡ declarationRow src p (x .kind) (at + e) r n m → PutDeclaration ws m r' d d'
-            → WroteOne src at x n r' d d' f f' t t' c c''
+        pub one-done : {r' : Walk} {d d' ws : List ℕ} (e : ℕ) → e ≡ at + whole-len → ws ≡ declarationRow src p kind e r n m → PutDeclaration ws m r' d d'
+            → WroteOne src at n (record { walk = r'; end = e }) d d' f f' t t' c c''
         one-done {r'} e ee er put =
             record {
               wrote = λ xs a. done xs a e ee er put;
-              few = put-few (at + taken (x .at)) put (omega (arith, same-declarations, w .ready .few .declarations, some-byte)) member-few;
+              few = subst (λ (i : ℕ). Few r' i) (sym ee) (put-few (at + whole-len) put (omega (arith, same-declarations, w .ready .few .declarations, some-byte)) member-few);
+              end = ee;
             }

@@ -24,7 +24,7 @@ use Rattle.walk.specs.StateLaws.{emits-append}
 use Rattle.walk.specs.Counts.{grown}
 use Rattle.walk.specs.SaidLaws.{wider-few}
 use Rattle.walk.specs.Insides.{took-inside}
-use Rattle.walk.specs.Turns.{comma, rest, past, past-from, first-item}
+use Rattle.walk.specs.Turns.{comma, rest, past, Over, past-from, first-item}
 use Rattle.walk.specs.Nexts.{FoundAt, found, none-comma, none-item}
 use Rattle.field_rows.specs.declared.Next.{Next}
 use Rattle.field_rows.specs.Counts.{soFar, soFar-count, same-list}
@@ -53,10 +53,10 @@ module _ {src : List ℕ} {at : ℕ} {n : Walk} {f c : List ℕ} {i : ℕ} {q : 
         ∙ ap₂ (λ (k : ℕ) (s : State). emits (parse-field-list src (soFar k) (rest field src (i + taken (x .at)))) s) (sym turn-count) (sym (one .wrote .done d t))
 
     -- k is how much the code says that x took
-    pub turn-done : (k : ℕ) → k ≡ taken (x .at) → rest field src (i + k) ≡ nil → WroteList src at n r f u c v
+    pub turn-done : (k : ℕ) → k ≡ taken (x .at) → Over field src (i + k) → WroteList src at n (record { walk = r; end = i + k }) f u c v
     unfolding parse-field-list emits
     turn-done k ek ez =
-        let e : rest field src (i + taken (x .at)) ≡ nil = ap (λ (y : ℕ). rest field src (i + y)) (sym ek) ∙ ez in
+        let e : rest field src (i + taken (x .at)) ≡ nil = ap (λ (y : ℕ). rest field src (i + y)) (sym ek) ∙ ez .nodes-are in
         record {
           wrote = λ xs ex.
               record {
@@ -67,6 +67,7 @@ module _ {src : List ℕ} {at : ℕ} {n : Walk} {f c : List ℕ} {i : ℕ} {q : 
                     ∙ ap (λ (y : Forest). emits (parse-field-list src (soFar (r .constraints)) y) (state r d u t v)) e);
               };
           few = wider-few r (i + taken (x .at)) (stop src at) (omega (arith, past-from field src (i + taken (x .at)), w .ends)) (one .few);
+          end = sym (ez .ends) ∙ ap (λ (y : ℕ). past field src (i + y)) ek ∙ w .ends;
         }
 
     pub turn-more : (k : ℕ) {e : ℕ} {p : SourceLocation} (y : FieldMatch) → k ≡ taken (x .at)

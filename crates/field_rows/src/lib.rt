@@ -14,6 +14,7 @@ ghost use Rattle.field_rows.specs.Fields.{notedDesc, NotedField, Conditi
 ghost use Rattle.field_rows.specs.Lists.{Nexts, Listed, WroteList};
 use crate::descs::Parts;
 use crate::descs::parts_of;
+use ast::numbers;
 use meaning::SourceLocation;
 use spans::Constraint;
 use spans::FieldMatch;
@@ -22,6 +23,7 @@ use spans::Token;
 use walk::Described;
 use walk::Number;
 use walk::Walk;
+use walk::Walked;
 
 // What the parts of a description say; their spans are counted from `at`.
 fn describe(s: &[u8], at: usize, x: Parts) -> Described
@@ -137,7 +139,7 @@ fn row_of(
     before: usize,
     group: usize,
     last: usize,
-) -> [u64; 20]
+) -> [u64; numbers::FIELD_WORDS]
     requires { ⌜ Rowed (now s) at p f before group ⌝ }
     ensures { λ r. ⌜ r ≡ fieldRow (now (s .entry)) at f d before (group - before) last ⌝ }
 {
@@ -222,7 +224,7 @@ pub fn put_fields(
     n: Walk,
     fields: &mut [u64],
     constraints: &mut [u64],
-) -> Walk
+) -> Walked
     requires { ⌜ Listed (now s) at p n ⌝ }
     ensures { λ r. ⌜ WroteList (now (s .entry)) at n r (now (fields .entry)) (now (fields .exit)) (now (constraints .entry)) (now (constraints .exit)) ⌝ }
 {
@@ -233,10 +235,11 @@ pub fn put_fields(
     loop {
         m = put_one(s, i, q, f, m, fields, constraints);
         let end = f.at;
-        let x = next_one(s, i + grammar::taken(end));
+        let j = i + grammar::taken(end);
+        let x = next_one(s, j);
         let more = x.found;
         if more {} else {
-            return m;
+            return Walked { walk: m, end: j };
         }
         i = x.at;
         q = text::move_to(s, q, i);

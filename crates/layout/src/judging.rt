@@ -11,6 +11,7 @@ use crate::Request;
 use crate::Verdict;
 use crate::requests::field_request;
 use alignment::Called;
+use ast::numbers;
 use meaning::Aligner;
 
 // Whether a total becomes a chunk.
@@ -36,16 +37,16 @@ fn judge_bits(a: Aligner, placed: &[u64], chunks: &[u64], width: u64) -> Called
     ensures { λ r. ⌜ r ≡ judged (Request.Bits width) a (now (placed .entry)) (now (chunks .entry)) ⌝ }
 {
     if Aligner::MAX_CHUNK_WIDTH - a.width < width {
-        return unchanged(12, a);
+        return unchanged(numbers::TOO_WIDE, a);
     }
-    if placed.len() / 3 <= a.placed {
-        return unchanged(13, a);
+    if placed.len() / numbers::PLACED_WORDS <= a.placed {
+        return unchanged(numbers::TABLE_FULL, a);
     }
     let total = a.width + width;
     let next = a.placed + 1;
     if is_due(total) {
-        if chunks.len() / 5 <= a.chunks {
-            return unchanged(13, a);
+        if chunks.len() / numbers::CHUNK_WORDS <= a.chunks {
+            return unchanged(numbers::TABLE_FULL, a);
         }
         return Called {
             number: 0,
@@ -74,10 +75,10 @@ fn judge_dynamic(a: Aligner, placed: &[u64], chunks: &[u64]) -> Called
     ensures { λ r. ⌜ r ≡ judged Request.Dynamic a (now (placed .entry)) (now (chunks .entry)) ⌝ }
 {
     if a.start < a.placed {
-        return unchanged(10, a);
+        return unchanged(numbers::BYTES_WHILE_STAGED, a);
     }
-    if chunks.len() / 5 <= a.chunks {
-        return unchanged(13, a);
+    if chunks.len() / numbers::CHUNK_WORDS <= a.chunks {
+        return unchanged(numbers::TABLE_FULL, a);
     }
     Called {
         number: 0,

@@ -7,6 +7,7 @@ ghost use Rattle.layout.specs.Judging.{Accepted, answered};
 use crate::judging::judge_fields;
 use crate::requests::field_request;
 use crate::requests::word_of;
+use ast::numbers;
 use meaning::Aligner;
 
 mod judging;
@@ -83,24 +84,24 @@ fn place_fields(
 fn declaration_number(declarations: &[u64], fields: &[u64], index: usize) -> u64
     ensures { λ r. ⌜ r ≡ feed-number (now (declarations .entry)) (now (fields .entry)) index ⌝ }
 {
-    if declarations.len() / 17 <= index {
-        return 15;
+    if declarations.len() / numbers::DECLARATION_WORDS <= index {
+        return numbers::NO_SUCH_DECLARATION;
     }
-    let kind = word_of(declarations, 17, index, 0);
+    let kind = word_of(declarations, numbers::DECLARATION_WORDS, index, 0);
     if kind < 2 {
-        return 15;
+        return numbers::NO_SUCH_DECLARATION;
     }
     if 4 < kind {
-        return 15;
+        return numbers::NO_SUCH_DECLARATION;
     }
-    let rows = (fields.len() / 20) as u64;
-    let first = word_of(declarations, 17, index, 13);
-    let count = word_of(declarations, 17, index, 14);
+    let rows = (fields.len() / numbers::FIELD_WORDS) as u64;
+    let first = word_of(declarations, numbers::DECLARATION_WORDS, index, 13);
+    let count = word_of(declarations, numbers::DECLARATION_WORDS, index, 14);
     if rows < count {
-        return 17;
+        return numbers::DAMAGED_ROW;
     }
     if rows - count < first {
-        return 17;
+        return numbers::DAMAGED_ROW;
     }
     0
 }
@@ -124,8 +125,8 @@ pub fn lay_out(
             chunks: 0,
         };
     }
-    let first = word_of(declarations, 17, index, 13) as usize;
-    let count = word_of(declarations, 17, index, 14) as usize;
+    let first = word_of(declarations, numbers::DECLARATION_WORDS, index, 13) as usize;
+    let count = word_of(declarations, numbers::DECLARATION_WORDS, index, 14) as usize;
     let v = judge_fields(fields, first, count, placed, chunks);
     if v.number != 0 {
         return Layout {

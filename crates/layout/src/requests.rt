@@ -5,6 +5,7 @@ ghost use Rattle.meaning.specs.Tables.{room};
 ghost use Rattle.meaning.specs.Feeding.{word, among};
 ghost use Rattle.layout.specs.Requests.{damage, by-kind, request};
 use crate::Request;
+use ast::numbers;
 
 // A word of a whole row.
 pub fn word_of(t: &[u64], size: usize, k: usize, i: usize) -> u64
@@ -67,7 +68,7 @@ fn kind_request(kind: u64, width: u64) -> Request
     if is_among(kind, &nothing) {
         return Request::Nothing;
     }
-    Request::Refused(14)
+    Request::Refused(numbers::WIDTH_NOT_IN_SYNTAX)
 }
 
 // What a field row asks for: a condition makes any kind dynamic bytes.
@@ -75,16 +76,16 @@ pub fn field_request(fields: &[u64], i: usize) -> Request
     requires { ⌜ i < room 20 (now fields) ⌝ }
     ensures { λ r. ⌜ r ≡ request (now (fields .entry)) i ⌝ }
 {
-    let kind = word_of(fields, 20, i, 0);
-    let flag = word_of(fields, 20, i, 13);
-    let other = word_of(fields, 20, i, 15);
+    let kind = word_of(fields, numbers::FIELD_WORDS, i, 0);
+    let flag = word_of(fields, numbers::FIELD_WORDS, i, 13);
+    let other = word_of(fields, numbers::FIELD_WORDS, i, 15);
     if is_damaged(kind, flag, other) {
-        return Request::Refused(17);
+        return Request::Refused(numbers::DAMAGED_ROW);
     }
-    let condition = word_of(fields, 20, i, 19);
+    let condition = word_of(fields, numbers::FIELD_WORDS, i, 19);
     if 0 < condition {
         return Request::Dynamic;
     }
-    let width = word_of(fields, 20, i, 14);
+    let width = word_of(fields, numbers::FIELD_WORDS, i, 14);
     kind_request(kind, width)
 }

@@ -1,19 +1,20 @@
 -- The nodes of a file that the grammar matches: the endianness line, all declarations, the end.
-use Prim.Native.Nat.{ℕ, _+_, _-_}
+use Prim.Native.Nat.{ℕ, _+_, _-_, _≤_}
 use native.Mathlib.Omega.{arith}
 use native.Mathlib.Nat.{zero-add}
-use mathlib.Core.Path.{_≡_, refl, ap, _∙_}
-use mathlib.Core.List.{List, [], append-nil}
+use mathlib.Core.Path.{_≡_, refl, ap, sym, _∙_}
+use mathlib.Core.List.{List, [], _∷_, append-nil}
 use mathlib.Core.Bool.{true}
-use lib.ListN.{drop}
+use lib.ListN.{length, drop, length-drop}
+use lib.Seq.{drop-drop}
 use Rattle.meaning.specs.declared.Match.{Match}
-use Rattle.meaning.specs.declared.Match.the-variants.{Took}
+use Rattle.meaning.specs.declared.Match.the-variants.{Missed, Took}
 use Rattle.meaning.specs.Rules.{Rule}
 use Rattle.meaning.specs.Peg.{seq, star, after, run, bytewise, hit, taken}
 use Rattle.meaning.specs.Forest.{Forest, nil, tree, _⊕_, nodes}
 use Rattle.meaning.specs.Pdl.{repeat, skip, endianness-declaration, declaration, SOI, EOI, file}
 use Rattle.meaning.specs.Walk.{part, parse-toplevel}
-use Rattle.grammar.specs.Matching.{Steps}
+use Rattle.grammar.specs.Matching.{Within, Steps}
 use Rattle.grammar.specs.Steps.{reads, steps}
 use Rattle.grammar.specs.Nodes.{hit-before, hit-behind, taken-after}
 use Rattle.grammar.specs.Lists.{repeat-nodes}
@@ -38,7 +39,17 @@ start-follows t = sign (from-start begun)
 all-nodes : (o : ℕ) (t : List ℕ) → nodes (bytewise (seq skip (repeat declaration))) o t ≡ nodes (star (bytewise (seq skip declaration))) o t
 all-nodes o t = repeat-nodes (bytewise skip) (bytewise declaration) (λ u. ap hit (skip-takes u)) skip-none declaration-eats o t
 
+-- the end of input has nothing behind it
+at-end : (u : List ℕ) → hit (run (bytewise EOI) u) ≡ true → length u ≡ 0
+unfolding run EOI
+at-end [] h = refl
+at-end (x ∷ u) h = absurd (let z : _≡_ {A = ℕ} 0 1 = cc in omega arith)
+
 module _ (t : List ℕ) where
+  fitting : (m : Match) → Within m t → taken m ≤ length t
+  fitting (Missed f) w = omega arith
+  fitting (Took n f) w = w .0
+
   -- the match of each part
   abbrev start : Match
   start = run (bytewise skip) t
@@ -111,6 +122,26 @@ module _ (t : List ℕ) where
     file-kids =
         let e : taken start + line-length t - taken start ≡ line-length t = omega arith in
         ap (λ (w : Forest). part Rule.file w .kids) (file-drawn .draws hit-end 0) ∙ rw (zero-add (taken start), zero-add (taken line), line-taken, e)
+
+    -- where the declarations and the blanks behind them end, the source does
+    pub ends-there : line-end t + (taken (run (bytewise (seq skip (repeat declaration))) (drop (line-end t) t))
+        + taken (run (bytewise skip) (drop (taken (run (bytewise (seq skip (repeat declaration))) (drop (line-end t) t))) (drop (line-end t) t)))) ≡ length t
+    ends-there =
+        let h-last : hit last ≡ true = hit-before last (λ u. run (bytewise EOI) u) t hit-end in
+        let h-more : hit more ≡ true = hit-before more (λ u. run (bytewise skip) u) t h-last in
+        let m : taken more ≡ line-end t + taken (run (bytewise (seq skip (repeat declaration))) (drop (line-end t) t))
+        = taken-after line (λ u. run (bytewise (seq skip (repeat declaration))) u) t h-more ∙ ap (λ (i : ℕ). i + taken (run (bytewise (seq skip (repeat declaration))) (drop i t))) line-taken in
+        let d : drop (taken more) t ≡ drop (taken (run (bytewise (seq skip (repeat declaration))) (drop (line-end t) t))) (drop (line-end t) t)
+        = ap (λ (i : ℕ). drop i t) m ∙ sym (drop-drop (taken (run (bytewise (seq skip (repeat declaration))) (drop (line-end t) t))) (line-end t) t) in
+        omega (
+          arith,
+          m,
+          taken-after more (λ u. run (bytewise skip) u) t h-last,
+          ap (λ (u : List ℕ). taken (run (bytewise skip) u)) d,
+          at-end (drop (taken last) t) (hit-behind last (λ u. run (bytewise EOI) u) t hit-end),
+          length-drop (taken last) t,
+          fitting last (s-last .fits),
+        )
 
     -- the line's node
     pub line-node : part Rule.endianness-declaration (part Rule.file (nodes (bytewise file) 0 t) .kids) .start ≡ line-start t

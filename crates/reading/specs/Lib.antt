@@ -10,6 +10,8 @@ pub mod SurveyLaws
 pub mod Accepts
 pub mod Outcomes
 pub mod OutcomeLaws
+pub mod Reaching
 pub mod Walks
 pub mod Rooms
 pub mod Promises
+pub mod WrongReaders

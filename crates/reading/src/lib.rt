@@ -13,6 +13,7 @@ ghost use Rattle.reading.specs.Outcomes.{lending, outcome, refusing, acc
 use crate::files::count_file;
 use crate::files::endianness;
 use crate::files::put_file;
+use ast::numbers;
 use declarations::files::file;
 use meaning::longest;
 
@@ -82,7 +83,7 @@ fn survey_rows(s: &[u8]) -> Survey
 {
     let n = count_file(s);
     if n.reason != 0 {
-        return refused(4, n.place, n.reason);
+        return refused(numbers::NOT_CONVERTED, n.place, n.reason);
     }
     Survey {
         number: 0,
@@ -102,17 +103,17 @@ fn survey_of(s: &[u8]) -> Survey
 {
     let most = longest();
     if most < s.len() {
-        return refused(1, most, 0);
+        return refused(numbers::TOO_LONG, most, 0);
     }
     let valid = text::valid_prefix(s);
     if valid < s.len() {
-        return refused(2, valid, 0);
+        return refused(numbers::NOT_UTF8, valid, 0);
     }
     let f = file(s);
     let whole = f.at;
     let matched = grammar::took(whole);
     if matched {} else {
-        return refused(3, f.place, 0);
+        return refused(numbers::NO_MATCH, f.place, 0);
     }
     survey_rows(s)
 }
@@ -121,33 +122,33 @@ fn survey_of(s: &[u8]) -> Survey
 fn first_short(x: Survey, lengths: [usize; 5]) -> Short
     ensures { λ r. ⌜ r ≡ shortOf x lengths ⌝ }
 {
-    if lengths[0] / 17 < x.declarations {
+    if lengths[0] / numbers::DECLARATION_WORDS < x.declarations {
         return Short {
-            table: 1,
+            table: numbers::DECLARATIONS,
             needed: x.declarations,
         };
     }
-    if lengths[1] / 20 < x.fields {
+    if lengths[1] / numbers::FIELD_WORDS < x.fields {
         return Short {
-            table: 2,
+            table: numbers::FIELDS,
             needed: x.fields,
         };
     }
-    if lengths[2] / 12 < x.tags {
+    if lengths[2] / numbers::TAG_WORDS < x.tags {
         return Short {
-            table: 3,
+            table: numbers::TAGS,
             needed: x.tags,
         };
     }
-    if lengths[3] / 12 < x.constraints {
+    if lengths[3] / numbers::CONSTRAINT_WORDS < x.constraints {
         return Short {
-            table: 4,
+            table: numbers::CONSTRAINTS,
             needed: x.constraints,
         };
     }
-    if lengths[4] / 7 < x.comments {
+    if lengths[4] / numbers::COMMENT_WORDS < x.comments {
         return Short {
-            table: 5,
+            table: numbers::COMMENTS,
             needed: x.comments,
         };
     }
@@ -201,7 +202,7 @@ pub fn read(
     ];
     let t = first_short(x, lengths);
     if t.table != 0 {
-        return refusal(5, t.table, t.needed as u64);
+        return refusal(numbers::TOO_FEW_ROWS, t.table, t.needed as u64);
     }
     put_file(src, declarations, fields, tags, constraints);
     comments::write_comments(src, comments);

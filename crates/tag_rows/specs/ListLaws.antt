@@ -9,7 +9,7 @@ use Rattle.meaning.specs.declared.Match.{Match}
 use Rattle.meaning.specs.declared.SourceLocation.{SourceLocation}
 use Rattle.meaning.specs.Peg.{run, bytewise, hit, taken}
 use Rattle.meaning.specs.Forest.{Forest, nil, _⊕_}
-use Rattle.meaning.specs.Pdl.{enum-value}
+use Rattle.meaning.specs.Pdl.{enum-value, enum-tag}
 use Rattle.meaning.specs.Places.{placeAt}
 use Rattle.meaning.specs.Tables.{Item}
 use Rattle.meaning.specs.Walk.{each}
@@ -22,9 +22,9 @@ use Rattle.walk.specs.State.{state, emits}
 use Rattle.walk.specs.StateLaws.{emits-append}
 use Rattle.walk.specs.SaidLaws.{wider-few}
 use Rattle.walk.specs.Insides.{took-inside}
-use Rattle.walk.specs.Turns.{comma, rest, past, past-from, first-item}
+use Rattle.walk.specs.Turns.{comma, rest, past, Over, past-from, first-item}
 use Rattle.walk.specs.Nexts.{FoundAt, found, none-comma, none-item}
-use Rattle.tag_rows.specs.Tags.{Form, values, tags, walked, itemsOf, listItems, stop, Done, Lawful}
+use Rattle.tag_rows.specs.Tags.{Form, values, tags, walked, itemsOf, listItems, stop, Done, WroteList, Lawful, lawful-tags}
 use Rattle.tag_rows.specs.Placed.{Met, Begun, Listed, Nexts, Turning}
 use Rattle.tag_rows.specs.TagLaws.{done-none, list-missed}
 use Rattle.tag_rows.specs.declared.Next.{Next}
@@ -50,10 +50,10 @@ module _ {z : Form} {src : List ℕ} {at : ℕ} {n : Walk} {t : List ℕ} {i : �
         ∙ ap (emits (walked z src (rest (z .peg) src (i + taken (c .at))))) (sym (one .wrote .done d f g))
 
     -- k is how much the code says that c took
-    pub turn-done : (k : ℕ) → k ≡ taken (c .at) → rest (z .peg) src (i + k) ≡ nil → Done (listItems z src at) (stop (z .peg) src at) n r t v
+    pub turn-done : (k : ℕ) → k ≡ taken (c .at) → Over (z .peg) src (i + k) → Done (listItems z src at) (stop (z .peg) src at) n r t v
     unfolding each emits
     turn-done k ek ez =
-        let e : rest (z .peg) src (i + taken (c .at)) ≡ nil = ap (λ (x : ℕ). rest (z .peg) src (i + x)) (sym ek) ∙ ez in
+        let e : rest (z .peg) src (i + taken (c .at)) ≡ nil = ap (λ (x : ℕ). rest (z .peg) src (i + x)) (sym ek) ∙ ez .nodes-are in
         record {
           wrote = record { done = λ d f g. sym (turn-left d f g ∙ ap (λ (x : Forest). emits (walked z src x) (state r d f v g)) e) };
           few = wider-few r (i + taken (c .at)) (stop (z .peg) src at) (omega (arith, past-from (z .peg) src (i + taken (c .at)), w .ends)) (one .few);
@@ -82,6 +82,13 @@ turn-start {z} {src} {at} {p} {n} {t} {c} w =
           (first-item (z .peg) src at (ap hit (sym (w .drawn .reads .is)) ∙ w .hits)
           ∙ ap₂ (λ (v : Forest) (k : ℕ). v ⊕ rest (z .peg) src (at + k)) (w .drawn .draws (w .hits) at) e);
     }
+
+-- the tags of an enum, done: the code says where they end
+pub tags-done : {src : List ℕ} {at : ℕ} {n : Walk} {t : List ℕ} {i : ℕ} {q : SourceLocation} {c : TagMatch} {m : Walk} {u : List ℕ} → Turning tags src at n t i q c m u
+    → {r : Walk} {v : List ℕ} → Done (itemsOf tags src i c) (i + taken (c .at)) m r u v → (k : ℕ) → k ≡ taken (c .at) → Over enum-tag src (i + k)
+    → WroteList src at n (record { walk = r; end = i + k }) t v
+tags-done {src} {at} {n} {t} {i} w one k ek ez =
+    record { done = turn-done w lawful-tags one k ek ez; end = sym (ez .ends) ∙ ap (λ (x : ℕ). past enum-tag src (i + x)) ek ∙ w .ends }
 
 -- the first tag of an enum, and the first value of a range if there is one
 pub tags-start : {src : List ℕ} {at : ℕ} {p : SourceLocation} {n : Walk} {t : List ℕ} {c : TagMatch}

@@ -6,7 +6,7 @@ use mathlib.Core.Bool.{true, false}
 use lib.ListN.{length, drop}
 use Rattle.meaning.specs.declared.SourceLocation.{SourceLocation}
 use Rattle.meaning.specs.Peg.{run, bytewise, hit, taken}
-use Rattle.meaning.specs.Forest.{nil, _⊕_}
+use Rattle.meaning.specs.Forest.{_⊕_}
 use Rattle.meaning.specs.Pdl.{enum-value-list, enum-tag}
 use Rattle.meaning.specs.Places.{placeAt}
 use Rattle.grammar.specs.Drawing.{Draws}
@@ -18,7 +18,7 @@ use Rattle.spans.specs.declared.TagMatch.{TagMatch}
 use Rattle.walk.specs.declared.Walk.{Walk}
 use Rattle.walk.specs.State.{state, emits, Few}
 use Rattle.walk.specs.Said.{Inside}
-use Rattle.walk.specs.Turns.{rest, past}
+use Rattle.walk.specs.Turns.{rest, past, Over}
 use Rattle.walk.specs.Nexts.{FoundAt}
 use Rattle.tag_rows.specs.Tags.{Form, walked, listItems, stop}
 use Rattle.tag_rows.specs.declared.Next.{Next}
@@ -83,7 +83,7 @@ pub record Listed (src : List ℕ) (at : ℕ) (p : SourceLocation) (n : Walk) : 
 
 -- what follows an item that ends at j
 pub record Nexts (z : Form) (src : List ℕ) (j : ℕ) (r : Next) : Type 0 where
-  pub none : r .found ≡ false → rest (z .peg) src j ≡ nil
+  pub none : r .found ≡ false → Over (z .peg) src j
   pub more : r .found ≡ true
       → FoundAt (z .peg) src j (r .at) (r .item .at) (λ o. z .draw o (drop (r .at) src) (taken (r .item .at)) (r .item .tag))
 

@@ -22,6 +22,7 @@ use Rattle.spans.specs.declared.Tag.the-variants.{Value, Range, Other}
 use Rattle.spans.specs.declared.TagMatch.{TagMatch}
 use Rattle.spans.specs.Drawn.{leafAt, listAt, drawTag}
 use Rattle.walk.specs.declared.Walk.{Walk}
+use Rattle.walk.specs.declared.Walked.{Walked}
 use Rattle.walk.specs.State.{Few, WroteTags}
 use Rattle.walk.specs.Said.{numberAt, noNumber, said, spanName, tagWords}
 use Rattle.walk.specs.Turns.{past}
@@ -60,6 +61,11 @@ stop x src at = past x src (at + taken (run (bytewise x) (drop at src)))
 pub record Done (xs : List Item) (k : ℕ) (n r : Walk) (t u : List ℕ) : Type 0 where
   pub wrote : WroteTags xs n r t u
   pub few : Few r k
+
+-- and what the walk over the tags of an enum leaves
+pub record WroteList (src : List ℕ) (at : ℕ) (n : Walk) (r : Walked) (t u : List ℕ) : Type 0 where
+  pub done : Done (listItems tags src at) (stop enum-tag src at) n (r .walk) t u
+  pub end : r .end ≡ stop enum-tag src at
 
 -- ---- one tag of n bytes at o, from its spans
 abbrev pub valueItems : List ℕ → ℕ → ℕ → ℕ → TagValue → List Item

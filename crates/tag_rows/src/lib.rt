@@ -2,8 +2,8 @@
 ghost use Prim.Native.Nat.{_+_, _≤_};
 ghost use lib.ListN.{length};
 ghost use Rattle.meaning.specs.Peg.{taken};
-ghost use Rattle.meaning.specs.Pdl.{enum-value, enum-tag};
-ghost use Rattle.tag_rows.specs.Tags.{values, tags, itemsOf, listItems, stop, Done, valueItems, innerItems, rangeItems, otherItems};
+ghost use Rattle.meaning.specs.Pdl.{enum-value};
+ghost use Rattle.tag_rows.specs.Tags.{values, tags, itemsOf, listItems, stop, Done, WroteList, valueItems, innerItems, rangeItems, otherItems};
 ghost use Rattle.tag_rows.specs.Placed.{PlacedValue, PlacedInner, PlacedRange, PlacedOther, Met, Begun, Listed, Nexts};
 use meaning::SourceLocation;
 use spans::Span;
@@ -13,6 +13,7 @@ use spans::TagOther;
 use spans::TagRange;
 use spans::TagValue;
 use walk::Walk;
+use walk::Walked;
 
 // A value, alone or inside a range by its kind: its number is noted, its row is written.
 pub fn put_value(
@@ -232,9 +233,9 @@ fn next_tag(s: &[u8], j: usize) -> Next
 }
 
 // The tags of an enum from `at` on, each matched once.
-pub fn put_tags(s: &[u8], at: usize, p: SourceLocation, n: Walk, t: &mut [u64]) -> Walk
+pub fn put_tags(s: &[u8], at: usize, p: SourceLocation, n: Walk, t: &mut [u64]) -> Walked
     requires { ⌜ Listed (now s) at p n ⌝ }
-    ensures { λ r. ⌜ Done (listItems tags (now (s .entry)) at) (stop enum-tag (now (s .entry)) at) n r (now (t .entry)) (now (t .exit)) ⌝ }
+    ensures { λ r. ⌜ WroteList (now (s .entry)) at n r (now (t .entry)) (now (t .exit)) ⌝ }
 {
     let mut i = at;
     let mut q = p;
@@ -243,10 +244,11 @@ pub fn put_tags(s: &[u8], at: usize, p: SourceLocation, n: Walk, t: &mut [u64]) 
     loop {
         m = put_one(s, i, q, c, m, t);
         let end = c.at;
-        let x = next_tag(s, i + grammar::taken(end));
+        let j = i + grammar::taken(end);
+        let x = next_tag(s, j);
         let more = x.found;
         if more {} else {
-            return m;
+            return Walked { walk: m, end: j };
         }
         i = x.at;
         q = text::move_to(s, q, i);

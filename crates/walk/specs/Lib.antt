@@ -6,8 +6,10 @@ pub mod Missed
 pub mod Said
 pub mod DrawnItems
 pub mod Ready
+pub mod Repeats
 pub mod Turns
 pub mod Listing
+pub mod Ends
 pub mod Insides
 pub mod Nexts
 pub mod SaidLaws

@@ -40,7 +40,7 @@ pub inside-hit : (x : Peg) (u : List ℕ) → hit (run (bytewise x) u) ≡ true 
 inside-hit x u h = inside-is x u ∙ h
 
 -- ---- the rule k of such items, with a last comma or none
-abbrev last : Peg
+abbrev pub last : Peg
 last = seq skip (opt (text ","))
 
 last-none : (o : ℕ) (u : List ℕ) → nodes (bytewise last) o u ≡ nil

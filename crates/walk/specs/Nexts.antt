@@ -3,19 +3,18 @@ use Prim.Native.Nat.{ℕ, _+_, _-_, _≤_, _<_}
 use native.Mathlib.Omega.{arith}
 use mathlib.Core.Path.{_≡_, refl, ap, ap₂, subst, sym, _∙_}
 use mathlib.Core.List.{List}
-use mathlib.Core.Bool.{Bool, true, false}
+use mathlib.Core.Bool.{true, false}
 use lib.ListN.{length, take, drop}
 use lib.Seq.{drop-drop}
 use Rattle.meaning.specs.declared.Match.{Match}
-use Rattle.meaning.specs.declared.Match.the-variants.{Missed, Took}
 use Rattle.meaning.specs.Peg.{Peg, run, bytewise, hit, taken}
-use Rattle.meaning.specs.Forest.{Forest, nil, _⊕_, nodes}
+use Rattle.meaning.specs.Forest.{Forest, _⊕_, nodes}
 use Rattle.meaning.specs.Pdl.{skip}
 use Rattle.grammar.specs.Matching.{Reads, eats}
 use Rattle.grammar.specs.Steps.{at, rest-is, reads}
 use Rattle.grammar.specs.Nodes.{hit-pos}
 use Rattle.grammar.specs.Drawing.{Draws}
-use Rattle.walk.specs.Turns.{comma, rest, past, next-item, next-past, no-comma, no-item}
+use Rattle.walk.specs.Turns.{comma, rest, past, Over, next-item, next-past, no-comma, no-item}
 use Rattle.walk.specs.Insides.{took-inside}
 
 -- x matches as r at e, behind a comma that follows j; w are its nodes
@@ -64,8 +63,8 @@ module _ (x : Peg) (src : List ℕ) (j : ℕ) (k : Match) (within : j ≤ length
         ends = next-past x src j k d (at j src hk) (there dk) hh hd ∙ ap (λ (i : ℕ). past x src (i + taken d)) (sym q);
       }
 
-  pub none-comma : hit k ≡ false → rest x src j ≡ nil
+  pub none-comma : hit k ≡ false → Over x src j
   none-comma h = no-comma x src j k (run (bytewise x) (drop (taken k) (drop j src))) (at j src hk) (reads x (drop (taken k) (drop j src)) _ refl) h
 
-  pub none-item : (e : ℕ) (d : Match) → e ≡ j + taken k → hit k ≡ true → hit d ≡ false → Reads x (take (length src - e) (drop e src)) d → rest x src j ≡ nil
+  pub none-item : (e : ℕ) (d : Match) → e ≡ j + taken k → hit k ≡ true → hit d ≡ false → Reads x (take (length src - e) (drop e src)) d → Over x src j
   none-item e d q hh hd dr = no-item x src j k d (at j src hk) (there (subst (λ (i : ℕ). Reads x (drop i src) d) q (at e src dr))) hh hd

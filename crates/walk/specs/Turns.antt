@@ -1,27 +1,27 @@
 -- A list, item by item: what is left of its nodes where the walk has come to.
-use Prim.Native.Nat.{ℕ, zero, suc, _+_, _≤_, max}
+use Prim.Native.Nat.{ℕ, _+_, _≤_}
 use native.Mathlib.Omega.{arith}
 use mathlib.Core.Path.{_≡_, refl, ap, ap₂, sym, _∙_}
-use mathlib.Core.List.{List, [], _∷_}
+use mathlib.Core.List.{List}
 use mathlib.Core.Bool.{Bool, true, false}
-use lib.ListN.{length, drop}
+use lib.ListN.{drop}
 use lib.Seq.{drop-drop}
 use Rattle.meaning.specs.declared.Match.{Match}
 use Rattle.meaning.specs.declared.Match.the-variants.{Missed, Took}
 use Rattle.meaning.specs.Choice.{pick}
-use Rattle.meaning.specs.Peg.{Peg, lit, seq, star, opt, lift, after, again, join, maybe, run, bytewise, hit, taken}
+use Rattle.meaning.specs.Peg.{Peg, seq, star, opt, after, join, maybe, run, bytewise, hit, taken}
 use Rattle.meaning.specs.Forest.{Forest, nil, _⊕_, nodes}
 use Rattle.meaning.specs.Pdl.{text, _~_, repeat, skip}
-use Rattle.grammar.specs.Matching.{Within, Reads, Steps, eats}
-use Rattle.grammar.specs.Fits.{within-run}
-use Rattle.grammar.specs.Steps.{reads, steps, after-seq, start}
-use Rattle.grammar.specs.Drawing.{Draws, Follows, from-start, whole, drawn, then}
-use Rattle.grammar.specs.Nodes.{no-hit, hit-before, hit-behind, taken-after, taken-join, hit-star, nodes-seq, nodes-star}
+use Rattle.grammar.specs.Matching.{Reads, Steps, eats}
+use Rattle.grammar.specs.Steps.{reads, steps, after-seq}
+use Rattle.grammar.specs.Drawing.{Draws, from-start, whole, drawn, then}
+use Rattle.grammar.specs.Nodes.{no-hit, taken-after, hit-star, nodes-seq, nodes-star}
 use Rattle.grammar.specs.Stars.{unroll}
 use Rattle.grammar.specs.Lists.{repeat-nodes}
 use Rattle.lexis.specs.Skips.{skip-takes}
 use Rattle.lexis.specs.Leaves.{skip-none}
 use Rattle.spans.specs.Parts.{gap, sign}
+use Rattle.walk.specs.Repeats.{seq-taken, star-none, again-taken, some-turns, no-turns}
 
 -- a comma with the blanks around it
 abbrev pub comma : Peg
@@ -34,6 +34,15 @@ turn x = seq skip (text "," ~ x)
 -- the nodes of all turns from j on
 unfoldable pub rest : Peg → List ℕ → ℕ → Forest
 rest x src j = nodes (star (bytewise (turn x))) j (drop j src)
+
+-- and where they end
+unfoldable pub past : Peg → List ℕ → ℕ → ℕ
+past x src j = j + taken (run (star (bytewise (turn x))) (drop j src))
+
+-- no turn follows j
+pub record Over (x : Peg) (src : List ℕ) (j : ℕ) : Type 0 where
+  pub nodes-are : rest x src j ≡ nil
+  pub ends : past x src j ≡ j
 
 module _ (x : Peg) (t : List ℕ) where
   -- a turn is a comma and then x
@@ -106,7 +115,7 @@ module _ (x : Peg) (t : List ℕ) where
         turn-drawn .draws e o ∙ ap (λ (m : Match). nodes (bytewise x) (o + taken m) (drop (taken m) t)) (sym k-is)
 
 -- ---- where the walk has come to j: a comma matches there as k, and x behind it as d
-eats-turn : (x : Peg) → eats (bytewise (turn x)) ≡ true
+pub eats-turn : (x : Peg) → eats (bytewise (turn x)) ≡ true
 unfolding skip
 eats-turn x = refl
 
@@ -138,11 +147,15 @@ module _ (x : Peg) (src : List ℕ) (j : ℕ) (k d : Match) (hk : Reads comma (d
       (ap₂ (λ (o : ℕ) (u : List ℕ). nodes (star (bytewise (turn x))) o u) (omega (arith, n))
       (ap (λ (i : ℕ). drop i (drop j src)) n ∙ drop-drop (taken k + taken d) j src ∙ ap (λ (i : ℕ). drop i src) (let z : j + (taken k + taken d) ≡ j + taken k + taken d = omega arith in z)))
 
-  pub no-comma : hit k ≡ false → rest x src j ≡ nil
-  no-comma h = star-at ∙ pick-false _ _ _ (turn-missed x (drop j src) k d hk hd h)
+  over : hit (run (bytewise (turn x)) (drop j src)) ≡ false → Over x src j
+  unfolding past
+  over h = record { nodes-are = star-at ∙ pick-false _ _ _ h; ends = omega (arith, star-none (bytewise (turn x)) (eats-turn x) (drop j src) h) }
 
-  pub no-item : hit k ≡ true → hit d ≡ false → rest x src j ≡ nil
-  no-item h i = star-at ∙ pick-false _ _ _ (b4-hit x (drop j src) k d hk hd h ∙ i)
+  pub no-comma : hit k ≡ false → Over x src j
+  no-comma h = over (turn-missed x (drop j src) k d hk hd h)
+
+  pub no-item : hit k ≡ true → hit d ≡ false → Over x src j
+  no-item h i = over (b4-hit x (drop j src) k d hk hd h ∙ i)
 
 -- ---- from the list's start
 hit-skip : (u : List ℕ) → hit (run (bytewise skip) u) ≡ true
@@ -174,16 +187,9 @@ first-item x src at h =
     ∙ ap (λ (u : List ℕ). nodes (star (bytewise (turn x))) (at + taken (run (bytewise x) (drop at src))) u) (drop-drop (taken (run (bytewise x) (drop at src))) at src))
 
 -- ---- where all turns from j on end
-unfoldable pub past : Peg → List ℕ → ℕ → ℕ
-past x src j = j + taken (run (star (bytewise (turn x))) (drop j src))
-
 pub past-from : (x : Peg) (src : List ℕ) (j : ℕ) → j ≤ past x src j
 unfolding past
 past-from x src j = omega arith
-
-again-taken : (m : Match) (q : List ℕ → Match) (t : List ℕ) → hit m ≡ true → ((u : List ℕ) → hit (q u) ≡ true) → taken (again m q t) ≡ taken m + taken (q (drop (taken m) t))
-again-taken (Missed f) q t e h = no-hit f e
-again-taken (Took n f) q t e h = taken-join n f (q (drop n t)) (h (drop n t))
 
 module _ (x : Peg) (src : List ℕ) (j : ℕ) (k d : Match) (hk : Reads comma (drop j src) k) (hd : Reads x (drop (taken k) (drop j src)) d) where
   pub next-past : hit k ≡ true → hit d ≡ true → past x src j ≡ past x src (j + taken k + taken d)
@@ -198,37 +204,23 @@ module _ (x : Peg) (src : List ℕ) (j : ℕ) (k d : Match) (hk : Reads comma (d
       ∙ ap (λ (u : List ℕ). taken k + taken d + taken (run (star (bytewise (turn x))) u)) (drop-drop (taken k + taken d) j src ∙ ap (λ (i : ℕ). drop i src) z) in
       omega (arith, e)
 
--- blanks and then `e*` with blanks between take at least what the turns take
-module _ (e s : List ℕ → Match) (stars : (v : List ℕ) → hit (s v) ≡ true) (u : List ℕ) where
-  turned-in : (n f : ℕ) (y : Match) → taken (again (join n f y) s u) ≤ taken (join n f (maybe (after y s (drop n u))))
-  turned-in n f (Missed g) = omega arith
-  turned-in n f (Took i g) =
-      let a : taken (join (n + i) (max f (lift n g)) (s (drop (n + i) u))) ≡ n + i + taken (s (drop (n + i) u)) = taken-join (n + i) (max f (lift n g)) (s (drop (n + i) u)) (stars (drop (n + i) u)) in
-      let b : taken (s (drop i (drop n u))) ≡ taken (s (drop (n + i) u)) = ap (λ (v : List ℕ). taken (s v)) (drop-drop i n u) in
-      let c : taken (join n f (maybe (join i g (s (drop i (drop n u)))))) ≡ n + (i + taken (s (drop i (drop n u)))) = kept (s (drop i (drop n u))) (stars (drop i (drop n u))) in
-      omega (arith, a, b, c)
+module _ (x : Peg) (u : List ℕ) where
+  pub turns-some : hit (run (bytewise (turn x)) u) ≡ true → taken (run (bytewise (seq skip (repeat (text "," ~ x)))) u) ≡ taken (run (star (bytewise (turn x))) u)
+  unfolding run
+  turns-some h =
+      some-turns (λ v. run (bytewise (text "," ~ x)) v) (λ v. run (star (bytewise (turn x))) v) (λ v. hit-star (bytewise (turn x)) v) u (run (bytewise skip) u) h
+      ∙ ap taken (sym (unroll (bytewise (turn x)) (eats-turn x) u))
+
+  pub turns-none : hit (run (bytewise (turn x)) u) ≡ false → taken (run (bytewise (seq skip (repeat (text "," ~ x)))) u) ≡ taken (run (bytewise skip) u)
+  unfolding run
+  turns-none h = no-turns (λ v. run (bytewise (text "," ~ x)) v) (λ v. run (star (bytewise (turn x))) v) (λ v. hit-star (bytewise (turn x)) v) u (run (bytewise skip) u) h
+
+  opt-star : taken (run (star (bytewise (turn x))) u) ≤ taken (run (bytewise (seq skip (repeat (text "," ~ x)))) u)
+  opt-star = go (hit (run (bytewise (turn x)) u)) refl
     where
-      kept : (m : Match) → hit m ≡ true → taken (join n f (maybe (join i g m))) ≡ n + (i + taken m)
-      kept (Missed h) q = no-hit h q
-      kept (Took k h) q = refl
-
-  after-skip : (m : Match) → hit m ≡ true → taken (again (after m e u) s u) ≤ taken (after m (λ v. maybe (after (e v) s v)) u)
-  after-skip (Missed f) q = no-hit f q
-  after-skip (Took n f) q = turned-in n f (e (drop n u))
-
-opt-star : (x : Peg) (u : List ℕ) → taken (run (star (bytewise (turn x))) u) ≤ taken (run (bytewise (seq skip (repeat (text "," ~ x)))) u)
-unfolding run
-opt-star x u =
-    rw (unroll (bytewise (turn x)) (eats-turn x) u)
-    (after-skip (λ v. run (bytewise (text "," ~ x)) v) (λ v. run (star (bytewise (turn x))) v) (λ v. hit-star (bytewise (turn x)) v) u (run (bytewise skip) u) (hit-skip u))
-
-seq-taken : (a b : Peg) (t : List ℕ) → hit (run a t) ≡ true → hit (run b (drop (taken (run a t)) t)) ≡ true → taken (run (seq a b) t) ≡ taken (run a t) + taken (run b (drop (taken (run a t)) t))
-unfolding run
-seq-taken a b t h k = go (run a t) h k
-  where
-    go : (m : Match) → hit m ≡ true → hit (run b (drop (taken m) t)) ≡ true → taken (after m (λ u. run b u) t) ≡ taken m + taken (run b (drop (taken m) t))
-    go (Missed f) p q = no-hit f p
-    go (Took n f) p q = taken-join n f (run b (drop n t)) q
+      go : (b : Bool) → hit (run (bytewise (turn x)) u) ≡ b → taken (run (star (bytewise (turn x))) u) ≤ taken (run (bytewise (seq skip (repeat (text "," ~ x)))) u)
+      go true h = omega (arith, turns-some h)
+      go false h = omega (arith, star-none (bytewise (turn x)) (eats-turn x) u h)
 
 -- the turns end inside the list
 pub list-past : (x : Peg) (src : List ℕ) (at : ℕ) → hit (run (bytewise x) (drop at src)) ≡ true

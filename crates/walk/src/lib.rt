@@ -8,6 +8,7 @@ ghost use Rattle.grammar.specs.Matching.{Reads};
 ghost use Rattle.walk.specs.Turns.{comma};
 ghost use Rattle.walk.specs.State.{fresh, noted, WroteTags, WroteConstraints, PutField, PutDeclaration};
 ghost use Rattle.walk.specs.Said.{numberAt, noNumber, tokenNumber, noName, spanName, unquotedName, identifierName, fieldName, modifierName, otherName, Inside, InsideToken, tagWords, constraintKind, constraintWords, fieldWords, declarationWords};
+use ast::numbers;
 use lexis::blanks::then_blanks;
 use lexis::texts::then_literal;
 use meaning::Converted;
@@ -32,6 +33,12 @@ pub struct Walk {
     pub constraints: usize,
     pub place: usize,
     pub reason: u64,
+}
+
+// A walk over a list: its state behind the list, and where the last item ends.
+pub struct Walked {
+    pub walk: Walk,
+    pub end: usize,
 }
 
 // The state before the first item.
@@ -239,7 +246,7 @@ pub fn tag_row(
     v: Number,
     e: Number,
     inner: usize,
-) -> [u64; 12]
+) -> [u64; numbers::TAG_WORDS]
     ensures { λ r. ⌜ r ≡ tagWords kind p q id v e inner ⌝ }
 {
     [
@@ -266,7 +273,7 @@ pub fn constraint_row(
     id: Name,
     tag: Name,
     v: Number,
-) -> [u64; 12]
+) -> [u64; numbers::CONSTRAINT_WORDS]
     ensures { λ r. ⌜ r ≡ constraintWords kind p q id tag v ⌝ }
 {
     [
@@ -303,7 +310,7 @@ pub fn field_row(
     first: usize,
     count: usize,
     cond: usize,
-) -> [u64; 20]
+) -> [u64; numbers::FIELD_WORDS]
     ensures { λ r. ⌜ r ≡ fieldWords (d .kind) p q (d .a) (d .b) (d .c) (d .na) (d .nb) first count cond ⌝ }
 {
     [
@@ -342,7 +349,7 @@ pub fn declaration_row(
     count: usize,
     list: usize,
     listed: usize,
-) -> [u64; 17]
+) -> [u64; numbers::DECLARATION_WORDS]
     ensures { λ r. ⌜ r ≡ declarationWords kind p q id other width first count list listed ⌝ }
 {
     [
@@ -377,7 +384,7 @@ pub fn first_of(first: usize, count: usize) -> usize
 }
 
 // A tag's row into its table.
-pub fn put_tag(n: Walk, tag: [u64; 12], t: &mut [u64]) -> Walk
+pub fn put_tag(n: Walk, tag: [u64; numbers::TAG_WORDS], t: &mut [u64]) -> Walk
     requires { ⌜ n .tags + 1 < 2 ^ 64 ⌝ }
     ensures { λ r. ⌜ WroteTags (row Table.tags tag ∷ []) n r (now (t .entry)) (now (t .exit)) ⌝ }
 {
@@ -393,7 +400,7 @@ pub fn put_tag(n: Walk, tag: [u64; 12], t: &mut [u64]) -> Walk
 }
 
 // A constraint's row into its table.
-pub fn put_constraint(n: Walk, constraint: [u64; 12], c: &mut [u64]) -> Walk
+pub fn put_constraint(n: Walk, constraint: [u64; numbers::CONSTRAINT_WORDS], c: &mut [u64]) -> Walk
     requires { ⌜ n .constraints + 1 < 2 ^ 64 ⌝ }
     ensures { λ r. ⌜ WroteConstraints (row Table.constraints constraint ∷ []) n r (now (c .entry)) (now (c .exit)) ⌝ }
 {
@@ -409,7 +416,7 @@ pub fn put_constraint(n: Walk, constraint: [u64; 12], c: &mut [u64]) -> Walk
 }
 
 // A field's row into its table.
-pub fn put_field(n: Walk, field: [u64; 20], f: &mut [u64]) -> Walk
+pub fn put_field(n: Walk, field: [u64; numbers::FIELD_WORDS], f: &mut [u64]) -> Walk
     requires { ⌜ n .fields + 1 < 2 ^ 64 ⌝ }
     ensures { λ r. ⌜ PutField field n r (now (f .entry)) (now (f .exit)) ⌝ }
 {
@@ -425,7 +432,11 @@ pub fn put_field(n: Walk, field: [u64; 20], f: &mut [u64]) -> Walk
 }
 
 // A declaration's row into its table.
-pub fn put_declaration(n: Walk, declaration: [u64; 17], d: &mut [u64]) -> Walk
+pub fn put_declaration(
+    n: Walk,
+    declaration: [u64; numbers::DECLARATION_WORDS],
+    d: &mut [u64],
+) -> Walk
     requires { ⌜ n .declarations + 1 < 2 ^ 64 ⌝ }
     ensures { λ r. ⌜ PutDeclaration declaration n r (now (d .entry)) (now (d .exit)) ⌝ }
 {

@@ -23,8 +23,8 @@ loop-holds c = (refl, (refl, turn-start _ (c .before .before .before .before .be
 put-one-requires : tie.Need-put-one-requires Inv-loop μ-loop
 put-one-requires c κs = turn-ready _ (c .before .before .loop .inv .1 .1)
 
-add-next-one : tie.Need-add-next-one Inv-loop μ-loop
-add-next-one c =
+add-j : tie.Need-add-j Inv-loop μ-loop
+add-j c =
     let l = c .before .before .before .before .before .before .before .before in
     let w = (l .loop .inv .1 .1) in
     omega (arith, (c .taken .ensures), turn-inside _ w, w .within)
@@ -81,4 +81,4 @@ pub put-fields-spec : {M : Type 1} → statement M
 put-fields-spec =
     tie.close
     (tie.spec Inv-loop μ-loop (λ c. search needs) (λ c. search needs) (λ c. search needs) (λ c κs. search needs) loop-holds put-one-requires
-    (λ c κs. search needs) add-next-one next-one-requires same-length same-length-2 returns move-to-requires loop-less loop-again)
+    (λ c κs. search needs) add-j next-one-requires same-length same-length-2 returns move-to-requires loop-less loop-again)

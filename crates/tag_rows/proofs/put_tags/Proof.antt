@@ -7,7 +7,7 @@ use lib.ListN.{length}
 use Rattle.walk.specs.Ready.{ready}
 use Rattle.tag_rows.specs.Tags.{tags, lawful-tags}
 use Rattle.tag_rows.specs.Placed.{Turning}
-use Rattle.tag_rows.specs.ListLaws.{tags-start, turn-inside, turn-done, turn-more}
+use Rattle.tag_rows.specs.ListLaws.{tags-start, turn-inside, tags-done, turn-more}
 use Rattle.tag_rows.proofs.put_tags.Statement.{statement}
 use Rattle.tag_rows.proofs.put_tags.Tie as tie
 
@@ -20,8 +20,8 @@ abbrev μ-loop : tie.MeasureT-loop
 loop-holds : tie.Need-loop-holds Inv-loop μ-loop
 loop-holds c = (refl, tags-start (c .before .before .before .before .pre) (c .enum-tag .ensures))
 
-add-next-tag : tie.Need-add-next-tag Inv-loop μ-loop
-add-next-tag c = omega (arith, c .taken .ensures, turn-inside (c .before .before .before .before .before .loop .inv .1))
+add-j : tie.Need-add-j Inv-loop μ-loop
+add-j c = omega (arith, c .taken .ensures, turn-inside (c .before .before .before .before .before .loop .inv .1))
 
 next-tag-requires : tie.Need-next-tag-requires Inv-loop μ-loop
 next-tag-requires c κs = omega (arith, c .taken .ensures, turn-inside (c .before .before .before .before .before .loop .inv .1))
@@ -33,7 +33,7 @@ returns : tie.Need-returns Inv-loop μ-loop
 returns c =
     let n = c .before in
     let b = c .before .before .before .before .before in
-    turn-done (b .before .before .loop .inv .1) lawful-tags (b .put-one .ensures) _ (n .before .taken .ensures) (n .next-tag .ensures .none (c .if1 .left))
+    tags-done (b .before .before .loop .inv .1) (b .put-one .ensures) _ (n .before .taken .ensures) (n .next-tag .ensures .none (c .if1 .left))
 
 move-to-requires : tie.Need-move-to-requires Inv-loop μ-loop
 move-to-requires c κs =
@@ -58,4 +58,4 @@ pub put-tags-spec : {M : Type 1} → statement M
 put-tags-spec =
     tie.close
     (tie.spec Inv-loop μ-loop (λ c. search needs) (λ c. search needs) (λ c. search needs) (λ c κs. search needs) loop-holds
-    (λ c κs. c .before .loop .inv .1 .item) (λ c κs. search needs) add-next-tag next-tag-requires same-length returns move-to-requires loop-less loop-again)
+    (λ c κs. c .before .loop .inv .1 .item) (λ c κs. search needs) add-j next-tag-requires same-length returns move-to-requires loop-less loop-again)

@@ -1,0 +1,67 @@
+-- The walk over the declarations of a file that matches reaches the end of the source.
+use Prim.Native.Nat.{ℕ, _+_}
+use native.Mathlib.Omega.{arith}
+use mathlib.Core.Path.{_≡_, refl, ap, subst, sym, _∙_}
+use mathlib.Core.List.{List}
+use mathlib.Core.Bool.{Bool, true, false}
+use lib.ListN.{length, drop}
+use lib.Seq.{drop-drop}
+use Rattle.meaning.specs.declared.SourceLocation.{SourceLocation}
+use Rattle.meaning.specs.Peg.{seq, star, run, bytewise, hit, taken}
+use Rattle.meaning.specs.Pdl.{repeat, skip, declaration, file}
+use Rattle.meaning.specs.Places.{placeAt}
+use Rattle.grammar.specs.Stars.{unroll}
+use Rattle.grammar.specs.Nodes.{hit-star}
+use Rattle.walk.specs.Repeats.{star-none, some-turns, no-turns}
+use Rattle.walk.specs.Ends.{skip-twice}
+use Rattle.declarations.specs.Files.{declaration-eats}
+use Rattle.declaration_rows.specs.Lists.{last, Reaches, Begun}
+use Rattle.reading.specs.declared.files.Line.{Line}
+use Rattle.reading.specs.Lines.{line-end, Lined}
+use Rattle.reading.specs.FileNodes.{ends-there}
+use Rattle.reading.specs.Matched.{Matched}
+
+-- n bytes and the blanks behind them
+abbrev blanked : List ℕ → ℕ → ℕ
+blanked u n = n + taken (run (bytewise skip) (drop n u))
+
+-- whether the blanks behind the declarations are taken with them or not, they end at the same place
+module _ (u : List ℕ) where
+  some : hit (run (bytewise (seq skip declaration)) u) ≡ true → taken (run (bytewise (seq skip (repeat declaration))) u) ≡ taken (run (star (bytewise (seq skip declaration))) u)
+  unfolding run
+  some h =
+      some-turns (λ v. run (bytewise declaration) v) (λ v. run (star (bytewise (seq skip declaration))) v) (λ v. hit-star (bytewise (seq skip declaration)) v) u (run (bytewise skip) u) h
+      ∙ ap taken (sym (unroll (bytewise (seq skip declaration)) declaration-eats u))
+
+  none : hit (run (bytewise (seq skip declaration)) u) ≡ false → taken (run (bytewise (seq skip (repeat declaration))) u) ≡ taken (run (bytewise skip) u)
+  unfolding run
+  none h = no-turns (λ v. run (bytewise declaration) v) (λ v. run (star (bytewise (seq skip declaration))) v) (λ v. hit-star (bytewise (seq skip declaration)) v) u (run (bytewise skip) u) h
+
+  same-end : blanked u (taken (run (star (bytewise (seq skip declaration))) u)) ≡ blanked u (taken (run (bytewise (seq skip (repeat declaration))) u))
+  same-end = go (hit (run (bytewise (seq skip declaration)) u)) refl
+    where
+      go : (b : Bool) → hit (run (bytewise (seq skip declaration)) u) ≡ b
+          → blanked u (taken (run (star (bytewise (seq skip declaration))) u)) ≡ blanked u (taken (run (bytewise (seq skip (repeat declaration))) u))
+      go true h = ap (blanked u) (sym (some h))
+      go false h =
+          ap (blanked u) (star-none (bytewise (seq skip declaration)) declaration-eats u h)
+          ∙ (let z : blanked u 0 ≡ blanked u (taken (run (bytewise skip) u)) = omega (arith, skip-twice u) in z)
+          ∙ ap (blanked u) (sym (none h))
+
+reaches : (t : List ℕ) → hit (run (bytewise file) t) ≡ true → Reaches t (line-end t)
+unfolding last
+reaches t h =
+    omega (
+      arith,
+      ends-there t h,
+      same-end (drop (line-end t) t),
+      ap (λ (v : List ℕ). taken (run (bytewise skip) v)) (drop-drop (taken (run (star (bytewise (seq skip declaration))) (drop (line-end t) t))) (line-end t) t),
+    )
+
+pub walk-ready : {src : List ℕ} {x : Line} {p : SourceLocation} → Matched src → Lined src x → p ≡ placeAt src (x .end) → Begun src (x .end) p
+walk-ready {src} {x} m h e =
+    record {
+      within = omega (arith, h .ends, h .within);
+      here = e;
+      reaches = subst (λ (i : ℕ). Reaches src i) (sym (h .ends)) (reaches src (m .hits));
+    }

@@ -1,0 +1,117 @@
+-- The five wrong readers of 01, 'Promises with teeth': the equation that `read` promises shuts out each of them.
+use Prim.Native.Nat.{ℕ, _*_, _<_}
+use native.Mathlib.Omega.{arith}
+use mathlib.Core.Path.{_≡_, refl, ap, sym, _∙_}
+use mathlib.Core.List.{List, []}
+use lib.ListN.{take, drop, getD, replicate}
+use lib.Seq.{getD-take}
+use Rattle.meaning.specs.Quoted.{bytes}
+use Rattle.meaning.specs.Tables.{Table, size, rowsOf, count, flat, room, Lent, lent, all}
+use Rattle.meaning.specs.Walk.{items}
+use Rattle.meaning.specs.Reading.{Outcome, counted, answer}
+use Rattle.meaning.specs.Everything.{everything}
+use Rattle.reading.specs.Matched.{whole}
+use Rattle.reading.specs.Promises.{Acceptable, rows, accepted-only, words}
+
+-- a reader takes a source and the lent words to an answer and the words that it leaves
+abbrev pub Reader : Type 0
+Reader = List ℕ → Lent → Outcome
+
+-- what `read` promises
+abbrev pub Right : Reader → Type 0
+Right f = (src : List ℕ) (l : Lent) → f src l ≡ answer src l
+
+-- some reader is right, so that what follows is not said of none
+pub right : Right answer
+right src l = refl
+
+-- ---- what the wrong ones are tried on: P3, another source, and room for two declarations and two fields
+abbrev pub p3 : List ℕ
+p3 = bytes "little_endian_packets\npacket A {x: 3 , y: 5}"
+
+abbrev pub two-packets : List ℕ
+two-packets = bytes "little_endian_packets\npacket A {}\npacket B {}"
+
+abbrev pub desk : Lent
+desk = record { w1 = replicate 34 0; w2 = replicate 40 0; w3 = []; w4 = []; w5 = [] }
+
+p3-number : answer p3 desk .answer .number ≡ 0
+unfolding everything
+p3-number = refl
+
+-- it has one declaration, where two have room
+p3-count : getD (answer p3 desk .answer .counts) 0 0 ≡ 1
+unfolding everything
+p3-count = refl
+
+-- the kind of its first field
+p3-kind : getD (answer p3 desk .left .w2) 0 0 ≡ 12
+unfolding everything
+p3-kind = refl
+
+two-number : answer two-packets desk .answer .number ≡ 0
+unfolding everything
+two-number = refl
+
+-- it has no field
+two-kind : getD (answer two-packets desk .left .w2) 0 0 ≡ 0
+unfolding everything
+two-kind = refl
+
+-- where its packets start
+two-first : getD (take 17 (answer two-packets desk .left .w1)) 1 0 ≡ 22
+unfolding everything
+two-first = refl
+
+two-second : getD (take 17 (drop 17 (answer two-packets desk .left .w1))) 1 0 ≡ 34
+unfolding everything
+two-second = refl
+
+-- ---- what no right reader does
+module _ (f : Reader) (is : Right f) where
+  accepts : (src : List ℕ) (l : Lent) → answer src l .answer .number ≡ 0 → f src l .answer .number ≡ 0
+  accepts src l h = ap (λ (o : Outcome). o .answer .number) (is src l) ∙ h
+
+  acceptable : (src : List ℕ) (l : Lent) → f src l .answer .number ≡ 0 → Acceptable src l
+  acceptable src l h = accepted-only src l (ap (λ (o : Outcome). o .answer .number) (sym (is src l)) ∙ h)
+
+  -- it refuses everything
+  pub refuses-all : ((src : List ℕ) (l : Lent) → f src l .answer .number ≡ 0 → ⊥) → ⊥
+  refuses-all h = h p3 desk (accepts p3 desk p3-number)
+
+  -- it leaves P3's rows for every source that it accepts
+  pub same-rows : ((src : List ℕ) (l : Lent) → f src l .answer .number ≡ 0 → f src l .left ≡ answer p3 l .left) → ⊥
+  same-rows h =
+      let e = ap (λ (o : Outcome). o .left) (sym (is two-packets desk)) ∙ h two-packets desk (accepts two-packets desk two-number) in
+      omega (arith, p3-kind, two-kind, ap (λ (l : Lent). getD (l .w2) 0 0) e)
+
+  -- it accepts and writes nothing
+  pub writes-nothing : ((src : List ℕ) (l : Lent) → f src l .answer .number ≡ 0 → f src l .left ≡ l) → ⊥
+  writes-nothing h =
+      let e = ap (λ (o : Outcome). o .left) (sym (is p3 desk)) ∙ h p3 desk (accepts p3 desk p3-number) in
+      omega (arith, p3-kind, ap (λ (l : Lent). getD (l .w2) 0 0) e)
+
+  -- it invents a word, anywhere in the rows of any table
+  pub invents : (src : List ℕ) (l : Lent) → f src l .answer .number ≡ 0 → (t : Table) (i : ℕ) → i < count t (items src (whole src)) * size t
+      → (getD (lent t (f src l .left)) i 0 ≡ getD (flat (rowsOf t (items src (whole src)))) i 0 → ⊥) → ⊥
+  invents src l h t i k n =
+      n (
+      ap (λ (o : Outcome). getD (lent t (o .left)) i 0) (is src l)
+      ∙ sym (getD-take (count t (items src (whole src)) * size t) (lent t (answer src l .left)) i 0 k)
+      ∙ ap (λ (ws : List ℕ). getD ws i 0) (words src l (acceptable src l h) t)
+      )
+
+  -- it repeats the row of the first of two packets as that of the second
+  pub repeats : take 17 (drop 17 (f two-packets desk .left .w1)) ≡ take 17 (f two-packets desk .left .w1) → ⊥
+  repeats h =
+      let e : take 17 (drop 17 (answer two-packets desk .left .w1)) ≡ take 17 (answer two-packets desk .left .w1) = rw is at h in
+      omega (arith, two-first, two-second, ap (λ (ws : List ℕ). getD ws 1 0) e)
+
+  -- it reports counts of its own
+  pub own-counts : (src : List ℕ) (l : Lent) → f src l .answer .number ≡ 0 → (f src l .answer .counts ≡ counted all (items src (whole src)) → ⊥) → ⊥
+  own-counts src l h n = n (ap (λ (o : Outcome). o .answer .counts) (is src l ∙ rows src l (acceptable src l h)))
+
+  -- it counts as declarations all rows that have room
+  pub counts-room : ((src : List ℕ) (l : Lent) → f src l .answer .number ≡ 0 → getD (f src l .answer .counts) 0 0 ≡ room 17 (l .w1)) → ⊥
+  counts-room h =
+      omega (arith, p3-count, ap (λ (o : Outcome). getD (o .answer .counts) 0 0) (is p3 desk), h p3 desk (accepts p3 desk p3-number))
