@@ -1,4 +1,5 @@
 pub mod Kinds
+pub mod Choices
 pub mod Keywords
 pub mod Braces
 pub mod Members

@@ -1,29 +1,36 @@
 use Rattle.declaration_rows.specs.Kinds.{n1, n2, n3, n4, n5, n6}
-use Rattle.declaration_rows.specs.Keywords.{known1, known2, known3, known4, known5, known6, known-test, kind-is, kind-test, word-told}
+use Rattle.declaration_rows.specs.Keywords.{kind-is, kind-test, word-told}
 use borrow.Author.Needs.{needs}
 use Rattle.declaration_rows.proofs.kind_at.Statement.{statement}
 use Rattle.declaration_rows.proofs.kind_at.Tie as tie
 
 returns : tie.Need-returns
-returns c = kind-is n1 (known1 _ (word-told (c .before .before .literal .ensures) (c .before .took .ensures) (c .if1 .taken)))
+returns c = kind-is n1 (word-told (c .before .before .literal .ensures) (c .before .took .ensures) (c .if1 .taken))
 
 returns-2 : tie.Need-returns-2
-returns-2 c = kind-is n2 (known2 _ (word-told (c .before .before .literal2 .ensures) (c .before .took2 .ensures) (c .if2 .taken)))
+returns-2 c = kind-is n2 (word-told (c .before .before .literal2 .ensures) (c .before .took2 .ensures) (c .if2 .taken))
 
 returns-3 : tie.Need-returns-3
-returns-3 c = kind-is n3 (known3 _ (word-told (c .before .before .literal3 .ensures) (c .before .took3 .ensures) (c .if3 .taken)))
+returns-3 c = kind-is n3 (word-told (c .before .before .literal3 .ensures) (c .before .took3 .ensures) (c .if3 .taken))
 
 returns-4 : tie.Need-returns-4
-returns-4 c = kind-is n4 (known4 _ (word-told (c .before .before .literal4 .ensures) (c .before .took4 .ensures) (c .if4 .taken)))
+returns-4 c = kind-is n4 (word-told (c .before .before .literal4 .ensures) (c .before .took4 .ensures) (c .if4 .taken))
 
 returns-5 : tie.Need-returns-5
-returns-5 c = kind-is n5 (known5 _ (word-told (c .before .before .literal5 .ensures) (c .before .took5 .ensures) (c .if5 .taken)))
+returns-5 c = kind-is n5 (word-told (c .before .before .literal5 .ensures) (c .before .took5 .ensures) (c .if5 .taken))
 
 returns-6 : tie.Need-returns-6
-returns-6 c = kind-is n6 (known6 _ (word-told (c .before .before .literal6 .ensures) (c .before .took6 .ensures) (c .if6 .taken)))
+returns-6 c = kind-is n6 (word-told (c .before .before .literal6 .ensures) (c .before .took6 .ensures) (c .if6 .taken))
 
 returns-7 : tie.Need-returns-7
-returns-7 c = kind-test (known-test _ (word-told (c .before .before .before .before .before .before .before .before .before .before .before .before .before .before .before .before .before .before .before .before .before .before .literal .ensures) (c .before .before .before .before .before .before .before .before .before .before .before .before .before .before .before .before .before .before .before .before .before .took .ensures) (c .before .before .before .before .before .before .before .before .before .before .before .before .before .before .before .before .before .before .before .before .if1 .left)) (word-told (c .before .before .before .before .before .before .before .before .before .before .before .before .before .before .before .before .before .before .literal2 .ensures) (c .before .before .before .before .before .before .before .before .before .before .before .before .before .before .before .before .before .took2 .ensures) (c .before .before .before .before .before .before .before .before .before .before .before .before .before .before .before .before .if2 .left)) (word-told (c .before .before .before .before .before .before .before .before .before .before .before .before .before .before .literal3 .ensures) (c .before .before .before .before .before .before .before .before .before .before .before .before .before .took3 .ensures) (c .before .before .before .before .before .before .before .before .before .before .before .before .if3 .left)) (word-told (c .before .before .before .before .before .before .before .before .before .before .literal4 .ensures) (c .before .before .before .before .before .before .before .before .before .took4 .ensures) (c .before .before .before .before .before .before .before .before .if4 .left)) (word-told (c .before .before .before .before .before .before .literal5 .ensures) (c .before .before .before .before .before .took5 .ensures) (c .before .before .before .before .if5 .left)) (word-told (c .before .before .literal6 .ensures) (c .before .took6 .ensures) (c .if6 .left)))
+returns-7 c =
+    kind-test
+    (word-told (c .before .before .before .before .before .before .before .before .before .before .before .before .before .before .before .before .before .before .before .before .before .before .literal .ensures) (c .before .before .before .before .before .before .before .before .before .before .before .before .before .before .before .before .before .before .before .before .before .took .ensures) (c .before .before .before .before .before .before .before .before .before .before .before .before .before .before .before .before .before .before .before .before .if1 .left))
+    (word-told (c .before .before .before .before .before .before .before .before .before .before .before .before .before .before .before .before .before .before .literal2 .ensures) (c .before .before .before .before .before .before .before .before .before .before .before .before .before .before .before .before .before .took2 .ensures) (c .before .before .before .before .before .before .before .before .before .before .before .before .before .before .before .before .if2 .left))
+    (word-told (c .before .before .before .before .before .before .before .before .before .before .before .before .before .before .literal3 .ensures) (c .before .before .before .before .before .before .before .before .before .before .before .before .before .took3 .ensures) (c .before .before .before .before .before .before .before .before .before .before .before .before .if3 .left))
+    (word-told (c .before .before .before .before .before .before .before .before .before .before .literal4 .ensures) (c .before .before .before .before .before .before .before .before .before .took4 .ensures) (c .before .before .before .before .before .before .before .before .if4 .left))
+    (word-told (c .before .before .before .before .before .before .literal5 .ensures) (c .before .before .before .before .before .took5 .ensures) (c .before .before .before .before .if5 .left))
+    (word-told (c .before .before .literal6 .ensures) (c .before .took6 .ensures) (c .if6 .left))
 
 pub kind-at-spec : {M : Type 1} → statement M
 kind-at-spec =
