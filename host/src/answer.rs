@@ -61,17 +61,17 @@ pub struct Words {
 }
 
 /// Reads a source into lent tables, as the library does.
-pub fn read_into(source: &[u8], tables: &mut [Vec<u64>; 5]) -> Words {
+pub fn read_into(source: &[u8], tables: [&mut [u64]; 5]) -> Words {
     let rows = std::array::from_fn(|table| tables[table].len() / ROW_WORDS[table]);
     write(&answer(source, &Limits::library(rows)), tables)
 }
 
 /// Writes an answer into lent tables: rows go to the front, and all other words stay.
-pub fn write(answer: &Result<Reading, Refusal>, tables: &mut [Vec<u64>; 5]) -> Words {
+pub fn write(answer: &Result<Reading, Refusal>, tables: [&mut [u64]; 5]) -> Words {
     match answer {
         Err(refusal) => Words { refusal: *refusal, ..Words::default() },
         Ok(reading) => {
-            for (table, rows) in tables.iter_mut().zip(&reading.tables) {
+            for (table, rows) in tables.into_iter().zip(&reading.tables) {
                 table[..rows.len()].copy_from_slice(rows);
             }
             let (counts, endianness) = (reading.counts(), reading.endianness);

@@ -1,11 +1,20 @@
 //! The lines of 01's program, and those of a layout.
 
 use crate::aligner::Room;
+use crate::answer::{self, Limits};
 use crate::layout::{feed, Layout};
 use crate::reading::{Reading, Refusal, DECLARATIONS, FIELDS};
 
 /// The letters of the tables' lines, in number order.
 const LETTERS: [&str; 5] = ["D", "F", "T", "C", "M"];
+
+/// What a program prints of a source: its tables, or the layouts of its declarations.
+pub fn program(source: &[u8], layouts_wanted: bool) -> String {
+    match answer::answer(source, &Limits::PROGRAM) {
+        Ok(reading) if layouts_wanted => layouts(&reading),
+        answered => answer(&answered),
+    }
+}
 
 /// The lines of an answer: E, D, F, T, C, M, or the one line R.
 pub fn answer(answer: &Result<Reading, Refusal>) -> String {

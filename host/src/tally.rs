@@ -1,20 +1,35 @@
 //! Counting what was checked, and what was seen on the way.
 
+use crate::sources::Rng;
 use std::collections::BTreeMap;
 use std::panic::{self, AssertUnwindSafe};
 use std::process::ExitCode;
 
-/// The number behind `--count`, or the usual one. Tells how the program is used where the words
-/// are others, and gives the exit status for that.
-pub fn count_asked(usual: usize) -> Result<usize, ExitCode> {
+/// What a run is asked for: how much, and the seed of what it makes by chance.
+#[derive(Clone, Copy)]
+pub struct Asked {
+    pub count: usize,
+    pub seed: u64,
+}
+
+impl Asked {
+    /// Chance for one part of the run.
+    pub fn rng(self, part: u64) -> Rng {
+        Rng::new(self.seed.wrapping_add(part))
+    }
+}
+
+/// The numbers behind `--count` and `--seed`, or the usual ones. Tells how the program is used
+/// where the words are others, and gives the exit status for that.
+pub fn asked(usual: Asked) -> Result<Asked, ExitCode> {
     let arguments: Vec<String> = std::env::args().collect();
-    let count = match &arguments[1..] {
-        [] => Some(usual),
-        [flag, count] if flag == "--count" => count.parse().ok(),
+    let asked = arguments[1..].chunks(2).try_fold(usual, |asked, words| match words {
+        [flag, count] if flag == "--count" => Some(Asked { count: count.parse().ok()?, ..asked }),
+        [flag, seed] if flag == "--seed" => Some(Asked { seed: seed.parse().ok()?, ..asked }),
         _ => None,
-    };
-    count.ok_or_else(|| {
-        eprintln!("usage: {} [--count number]", arguments[0]);
+    });
+    asked.ok_or_else(|| {
+        eprintln!("usage: {} [--count number] [--seed number]", arguments[0]);
         ExitCode::from(2)
     })
 }

@@ -13,9 +13,8 @@ use Rattle.meaning.specs.Quoted.{bytes}
 use Rattle.meaning.specs.Peg.{Peg, lit, prefixb, run, bytewise, hit}
 use Rattle.meaning.specs.Pdl.{rules, declaration}
 use Rattle.grammar.specs.Matching.{Reads}
-use Rattle.declarations.specs.Kinds.{declared}
 use Rattle.declaration_rows.specs.Choices.{no, both-left, both-right, Same, left, same}
-use Rattle.declaration_rows.specs.Kinds.{Numbered, n1, n2, n3, n4, n5, n6}
+use Rattle.declaration_rows.specs.Kinds.{declared, Numbered, n1, n2, n3, n4, n5, n6}
 
 -- ---- two words that differ in a byte which both have
 abbrev clash : List ℕ → List ℕ → Bool

@@ -1,4 +1,4 @@
--- The kinds of declarations by their numbers: their heads, keywords and nodes.
+-- The kinds of declarations by their numbers: their rules, heads, keywords and nodes.
 use Prim.Native.Nat.{ℕ, zero, suc, _≤_}
 use native.Mathlib.Omega.{arith}
 use mathlib.Core.Path.{_≡_, refl, subst, sym}
@@ -9,11 +9,23 @@ use Rattle.meaning.specs.declared.Match.{Match}
 use Rattle.meaning.specs.Choice.{pick}
 use Rattle.meaning.specs.Rules.{Rule}
 use Rattle.meaning.specs.Peg.{Peg}
+use Rattle.meaning.specs.Pdl.{enum-declaration, packet-declaration, struct-declaration, group-declaration, checksum-declaration, custom-field-declaration, test-declaration}
 use Rattle.meaning.specs.Walk.{kindIn, kinds}
 use Rattle.grammar.specs.Drawing.{Draws}
 use Rattle.spans.specs.declared.Header.{Header}
 use Rattle.spans.specs.Drawn.{drawHeader}
 use Rattle.declarations.specs.Headers.{enum-head, packet-head, struct-head, group-head, checksum-head, custom-head}
+
+-- the rule of each kind (01, 'Rows'); any other number is a test
+unfoldable pub declared : ℕ → Peg
+declared k =
+    pick (eqb k 1) enum-declaration
+    (pick (eqb k 2) packet-declaration
+    (pick (eqb k 3) struct-declaration
+    (pick (eqb k 4) group-declaration
+    (pick (eqb k 5) checksum-declaration
+    (pick (eqb k 6) custom-field-declaration
+    test-declaration)))))
 
 pub record Kind : Type 0 where
   pub head : Peg

@@ -19,7 +19,6 @@ use Rattle.grammar.specs.Steps.{reads, rest-is}
 use Rattle.lexis.specs.Skips.{Skips}
 use Rattle.spans.specs.declared.Header.{Header}
 use Rattle.spans.specs.Drawn.{drawHeader, listAt, onlyIdentifier, onlyInteger, onlyText}
-use Rattle.declarations.specs.Kinds.{declared}
 use Rattle.walk.specs.declared.Walk.{Walk}
 use Rattle.walk.specs.declared.Walked.{Walked}
 use Rattle.walk.specs.State.{State, state, emits, Few, PutDeclaration}
@@ -33,7 +32,7 @@ use Rattle.walk.specs.Counts.{count-append, Grown, grown}
 use Rattle.constraint_rows.specs.Spanned.{spanItems}
 use Rattle.field_rows.specs.Counts.{soFar, soFar-count}
 use Rattle.declaration_rows.specs.declared.heads.Headed.{Headed}
-use Rattle.declaration_rows.specs.Kinds.{Kind, kindOf, HeadOf, Numbered, n1, n2, n3, n4, n5, n6, number-is}
+use Rattle.declaration_rows.specs.Kinds.{declared, Kind, kindOf, HeadOf, Numbered, n1, n2, n3, n4, n5, n6, number-is}
 use Rattle.declaration_rows.specs.Braces.{listStart, inside, list-within}
 use Rattle.declaration_rows.specs.Members.{memberNodes, memberEnd, member-end-in, memberItems, membersOf, Membered, WroteMembers}
 use Rattle.declaration_rows.specs.Wholes.{declarationEnd, Whole, whole}

@@ -20,8 +20,7 @@ use Rattle.spans.specs.declared.Header.{Header}
 use Rattle.spans.specs.Drawn.{drawHeader}
 use Rattle.walk.specs.Listing.{list-hit}
 use Rattle.declarations.specs.Headers.{enum-head, packet-head, struct-head, group-head, checksum-head, custom-head}
-use Rattle.declarations.specs.Kinds.{declared}
-use Rattle.declaration_rows.specs.Kinds.{kindOf, HeadOf, Numbered, n1, n2, n3, n4, n5, n6}
+use Rattle.declaration_rows.specs.Kinds.{declared, kindOf, HeadOf, Numbered, n1, n2, n3, n4, n5, n6}
 use Rattle.declaration_rows.specs.Braces.{listStart, head-hits, list-hits, braced-nodes, braced-ends}
 use Rattle.declaration_rows.specs.Members.{memberNodes, memberEnd}
 

@@ -2,7 +2,7 @@
 ghost use Rattle.meaning.specs.Peg.{seq, opt};
 ghost use Rattle.meaning.specs.Pdl.{skip, field-list, enum-declaration, packet-declaration, struct-declaration, group-declaration, checksum-declaration, custom-field-declaration, declaration};
 ghost use Rattle.grammar.specs.Matching.{Within, Reads, Steps};
-ghost use Rattle.declarations.specs.Kinds.{Tried, Declares};
+ghost use Rattle.declarations.specs.Kinds.{OrKind};
 use crate::headers::checksum_head;
 use crate::headers::custom_field_head;
 use crate::headers::enum_head;
@@ -21,12 +21,6 @@ use tags::then_enum_tag_list;
 pub mod files;
 pub mod headers;
 pub mod tests;
-
-// The match of a declaration, and its kind as rows have it: 1 to 6, and 0 for a test.
-pub struct DeclarationMatch {
-    pub at: Match,
-    pub kind: u64,
-}
 
 // An enum.
 pub fn enum_declaration(s: &[u8]) -> Match
@@ -90,34 +84,27 @@ pub fn custom_field_declaration(s: &[u8]) -> Match
 }
 
 // The choice so far, d, or, where it missed, x of the next kind with the mark of d.
-fn or_kind(s: &[u8], d: DeclarationMatch, x: Match, kind: u64) -> DeclarationMatch
-    requires { ⌜ Within (d .at) (now s) × Within x (now s) ⌝ }
-    ensures { λ r. ⌜ Tried d x kind (now (s .entry)) r ⌝ }
+fn or_kind(s: &[u8], d: Match, x: Match) -> Match
+    requires { ⌜ Within x (now s) ⌝ }
+    ensures { λ r. ⌜ OrKind d x (now (s .entry)) r ⌝ }
 {
-    let at = d.at;
-    match at {
-        Match::Took(_, _) => d,
-        Match::Missed(f) => DeclarationMatch {
-            at: joined(s, 0, f, x),
-            kind,
-        },
+    match d {
+        Match::Took(n, f) => Match::Took(n, f),
+        Match::Missed(f) => joined(s, 0, f, x),
     }
 }
 
 // A declaration. The kinds that do not stand here miss at their keyword.
-pub fn declaration(s: &[u8]) -> DeclarationMatch
-    ensures { λ r. ⌜ Declares (now (s .entry)) r ⌝ }
+pub fn declaration(s: &[u8]) -> Match
+    ensures { λ r. ⌜ Reads declaration (now (s .entry)) r ⌝ }
 {
-    let a = DeclarationMatch {
-        at: enum_declaration(s),
-        kind: 1,
-    };
-    let b = or_kind(s, a, packet_declaration(s), 2);
-    let c = or_kind(s, b, struct_declaration(s), 3);
-    let d = or_kind(s, c, group_declaration(s), 4);
-    let e = or_kind(s, d, checksum_declaration(s), 5);
-    let f = or_kind(s, e, custom_field_declaration(s), 6);
-    or_kind(s, f, test_declaration(s), 0)
+    let a = enum_declaration(s);
+    let b = or_kind(s, a, packet_declaration(s));
+    let c = or_kind(s, b, struct_declaration(s));
+    let d = or_kind(s, c, group_declaration(s));
+    let e = or_kind(s, d, checksum_declaration(s));
+    let f = or_kind(s, e, custom_field_declaration(s));
+    or_kind(s, f, test_declaration(s))
 }
 
 // A declaration, where m ends.
@@ -127,10 +114,6 @@ pub fn then_declaration(s: &[u8], m: Match) -> Match
 {
     match m {
         Match::Missed(f) => Match::Missed(f),
-        Match::Took(n, f) => {
-            let d = declaration(&s[n..]);
-            let at = d.at;
-            joined(s, n, f, at)
-        }
+        Match::Took(n, f) => joined(s, n, f, declaration(&s[n..])),
     }
 }

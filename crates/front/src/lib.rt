@@ -2,4 +2,5 @@
 pub mod aligning;
 pub mod feeding;
 pub mod matching;
+pub mod sources;
 pub mod texts;

@@ -82,11 +82,7 @@ fn declaration(rule: u64, s: &[u8]) -> usize
         55 => extent(s, tests::test_case(s)),
         56 => extent(s, tests::test_case_list(s)),
         57 => extent(s, tests::test_declaration(s)),
-        58 => {
-            let d = declarations::declaration(s);
-            let at = d.at;
-            extent(s, at)
-        }
+        58 => extent(s, declarations::declaration(s)),
         59 => {
             let f = files::file(s);
             let at = f.at;

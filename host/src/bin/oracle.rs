@@ -1,7 +1,6 @@
 //! Reads a source from standard input and prints what 01's program prints; with `--layout`,
 //! the layout of each packet, struct and group instead.
 
-use host::answer::{answer, Limits};
 use host::print;
 use std::io::{self, Read, Write};
 
@@ -17,9 +16,5 @@ fn main() -> io::Result<()> {
     };
     let mut source = vec![];
     io::stdin().read_to_end(&mut source)?;
-    let lines = match answer(&source, &Limits::PROGRAM) {
-        Ok(reading) if layouts_wanted => print::layouts(&reading),
-        answer => print::answer(&answer),
-    };
-    io::stdout().write_all(lines.as_bytes())
+    io::stdout().write_all(print::program(&source, layouts_wanted).as_bytes())
 }

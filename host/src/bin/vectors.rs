@@ -1,10 +1,12 @@
-//! Writes the fixed list of the oracle's answers; with `--check`, makes it anew and compares.
+//! Writes the fixed list of the oracle's answers, and what the sample programs have to print; with
+//! `--check`, makes them anew and compares.
 
 use host::answer::{answer, Limits};
+use host::list::{self, Entry};
 use host::sources::{self, Rng};
 use host::{cases, print};
 use std::iter::repeat_with;
-use std::path::Path;
+use std::path::{Path, PathBuf};
 use std::process::ExitCode;
 use std::{fs, io};
 
@@ -15,13 +17,16 @@ const VALID: usize = 90;
 const DAMAGED: usize = 90;
 const LONG: usize = 8;
 
+/// The program crates that have a sample, and whether they print layouts.
+const SAMPLES: [(&str, bool); 3] =
+    [("pdl_tables", false), ("pdl_sample", false), ("pdl_layout", true)];
+
 fn main() -> io::Result<ExitCode> {
-    let path = Path::new(env!("CARGO_MANIFEST_DIR")).join("../vectors/answers.txt");
     let arguments: Vec<String> = std::env::args().skip(1).collect();
-    let entries: Vec<Vec<u8>> = sources().iter().map(|source| entry(source)).collect();
+    let entries: Vec<Entry> = sources().into_iter().map(entry).collect();
     match arguments.iter().map(String::as_str).collect::<Vec<_>>()[..] {
-        [] => fs::write(path, list(&entries)).map(|()| ExitCode::SUCCESS),
-        ["--check"] => Ok(check(&fs::read(path)?, &entries)),
+        [] => write(&entries).map(|()| ExitCode::SUCCESS),
+        ["--check"] => check(&entries),
         _ => {
             eprintln!("usage: vectors [--check]");
             Ok(ExitCode::from(2))
@@ -44,40 +49,53 @@ fn sources() -> Vec<Vec<u8>> {
     sources
 }
 
-/// A source and its answer: their lengths, then the bytes of each, ended by LF.
-fn entry(source: &[u8]) -> Vec<u8> {
-    let lines = print::answer(&answer(source, &Limits::PROGRAM));
-    let lengths = format!("S {} {}\n", source.len(), lines.len());
-    [lengths.as_bytes(), source, b"\n", lines.as_bytes(), b"\n"].concat()
+/// A source and its answer.
+fn entry(source: Vec<u8>) -> Entry {
+    let lines = print::program(&source, false).into_bytes();
+    Entry { source, lines }
 }
 
-fn list(entries: &[Vec<u8>]) -> Vec<u8> {
+fn write(entries: &[Entry]) -> io::Result<()> {
     let head = format!(
         "# Answers of the unchanged front end of google/pdl (commit 7e69a237d0) under pest {}.\n\
          # Made by `cargo run --release --bin vectors` in host/, seed {SEED}; do not edit.\n\
          # Each entry: S, bytes of the source, bytes of the answer; the source; LF; the answer; LF.\n",
         env!("PEST_VERSION")
     );
-    let end = format!("Z {}\n", entries.len());
-    [head.as_bytes(), &entries.concat(), end.as_bytes()].concat()
+    fs::write(list::path(), [head.into_bytes(), list::body(entries)].concat())?;
+    for (program, layouts_wanted) in SAMPLES {
+        fs::write(sample(program, "stdout"), sample_lines(program, layouts_wanted)?)?;
+    }
+    Ok(())
 }
 
-/// Compares entry by entry; the head may name another version of pest.
-fn check(stored: &[u8], entries: &[Vec<u8>]) -> ExitCode {
-    let made = list(entries);
-    let body = |list: &[u8]| {
-        let head: usize = list
-            .split_inclusive(|byte| *byte == b'\n')
-            .take_while(|line| line.starts_with(b"#"))
-            .map(<[u8]>::len)
-            .sum();
-        list[head..].to_vec()
+/// Compares the list, whose head may name another version of pest, and the samples.
+fn check(entries: &[Entry]) -> io::Result<ExitCode> {
+    let (mut passed, mut failed) = (0, 0);
+    let mut count = |same: bool, what: &str, checks: usize| {
+        if same {
+            passed += checks;
+        } else {
+            println!("vectors: {what} is not what the oracle answers");
+            failed += checks;
+        }
     };
-    let same = body(stored) == body(&made);
-    if !same {
-        println!("vectors: answers.txt is not what the oracle answers");
+    let stored = fs::read(list::path())?;
+    let same = list::without_head(&stored) == list::body(entries);
+    count(same, "the fixed list", entries.len());
+    for (program, layouts_wanted) in SAMPLES {
+        let lines = sample_lines(program, layouts_wanted)?;
+        count(fs::read_to_string(sample(program, "stdout"))? == lines, program, 1);
     }
-    let (passed, failed) = if same { (entries.len(), 0) } else { (0, entries.len()) };
     println!("{passed} passed, {failed} failed");
-    ExitCode::from(u8::from(!same))
+    Ok(ExitCode::from(u8::from(failed > 0)))
+}
+
+/// What a sample program has to print of its standard input.
+fn sample_lines(program: &str, layouts_wanted: bool) -> io::Result<String> {
+    Ok(print::program(&fs::read(sample(program, "stdin"))?, layouts_wanted))
+}
+
+fn sample(program: &str, file: &str) -> PathBuf {
+    Path::new(env!("CARGO_MANIFEST_DIR")).join("../crates").join(program).join(file)
 }

@@ -59,4 +59,22 @@ extern "C" {
         chunk_words: usize,
         answer: &mut [u64; 3],
     ) -> u64;
+
+    pub fn pdl_read(
+        source: *const u8,
+        bytes: usize,
+        declarations: *mut u64,
+        declaration_words: usize,
+        fields: *mut u64,
+        field_words: usize,
+        tags: *mut u64,
+        tag_words: usize,
+        constraints: *mut u64,
+        constraint_words: usize,
+        comments: *mut u64,
+        comment_words: usize,
+        refusal: &mut [u64; 2],
+        counts: &mut [u64; 5],
+        endianness: &mut [u64; 7],
+    ) -> u64;
 }

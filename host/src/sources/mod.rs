@@ -3,6 +3,7 @@
 mod damaged;
 mod long;
 mod parts;
+mod realistic;
 mod rng;
 mod short;
 mod valid;
@@ -11,6 +12,7 @@ mod writer;
 pub use damaged::damaged;
 pub use long::{declarations, padded};
 pub use parts::cuts;
+pub use realistic::{on_one_line, realistic};
 pub use rng::Rng;
 pub use short::{Frame, FRAMES};
 pub use valid::valid;

@@ -58,7 +58,12 @@ pub const FRAMES: &[Frame] = &[
 impl Frame {
     /// The sources of this frame, the shortest texts first.
     pub fn sources(&self) -> impl Iterator<Item = String> + '_ {
-        self.texts(self.longest).map(|text| [self.before, &text, self.after].concat())
+        self.sources_up_to(self.longest)
+    }
+
+    /// The same with texts of so many letters at most.
+    pub fn sources_up_to(&self, longest: u32) -> impl Iterator<Item = String> + '_ {
+        self.texts(longest).map(|text| [self.before, &text, self.after].concat())
     }
 
     /// The texts alone, of so many letters at most.

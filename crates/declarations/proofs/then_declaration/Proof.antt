@@ -18,7 +18,7 @@ joined-requires : tie.Need-joined-requires
 joined-requires c κs =
     let a = c .before .before .before in
     let b = a .before .before .before in
-    (took-le _ _ _ _ (b .pre) (a .m2 .given .1), at _ (now (b .args .s)) (c .declaration .ensures .reads) .fits)
+    (took-le _ _ _ _ (b .pre) (a .m2 .given .1), at _ (now (b .args .s)) (c .declaration .ensures) .fits)
 
 returns : tie.Need-returns
 returns c =
@@ -29,7 +29,7 @@ returns-2 : tie.Need-returns-2
 returns-2 c =
     let a = c .before .before .before .before in
     let b = a .before .before .before in
-    took _ _ (b .pre) (a .m2 .given .1) (c .before .declaration .ensures .reads) (c .joined .ensures)
+    took _ _ (b .pre) (a .m2 .given .1) (c .before .declaration .ensures) (c .joined .ensures)
 
 pub then-declaration-spec : {M : Type 1} → statement M
 then-declaration-spec =

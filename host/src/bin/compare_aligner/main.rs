@@ -8,38 +8,37 @@ mod tables;
 
 use calls::{CALL, END, STATE, WRAPPED};
 use feedings::{DAMAGED, WHOLE};
-use host::sources::Rng;
-use host::tally::{count_asked, Seen, Tally};
+use host::tally::{asked, Asked, Seen, Tally};
 use std::process::ExitCode;
 
-const SEED: u64 = 11;
-
-/// How many sequences of calls, and how many sources, are made unless `--count` says otherwise.
-const USUAL_COUNT: usize = 12_000;
+/// How many sequences of calls, and how many sources, are made, and the seed, unless the arguments
+/// say otherwise.
+const USUAL: Asked = Asked { count: 12_000, seed: 11 };
 
 /// How many sequences and feedings a usual run has to compare.
 const LEAST: u64 = 200_000;
 
 fn main() -> ExitCode {
-    let count = match count_asked(USUAL_COUNT) {
-        Ok(count) => count,
+    let asked = match asked(USUAL) {
+        Ok(asked) => asked,
         Err(usage) => return usage,
     };
     let mut tally = Tally::default();
     readings::check(&mut tally);
-    states(count, &mut tally);
+    states(asked, &mut tally);
     let before = tally.passed;
-    sequences(count, &mut tally);
-    feedings(count, &mut tally);
+    sequences(asked, &mut tally);
+    feedings(asked, &mut tally);
     let compared = tally.passed - before;
     println!("{compared} sequences and feedings are the same");
-    tally.check(|| assert!(compared >= LEAST || count < USUAL_COUNT, "not {LEAST} compared"));
+    tally.check(|| assert!(compared >= LEAST || asked.count < USUAL.count, "not {LEAST} compared"));
     tally.verdict()
 }
 
 /// Sequences of calls, each made over tables of every size around what it needs.
-fn sequences(count: usize, tally: &mut Tally) {
-    let mut rng = Rng::new(SEED);
+fn sequences(asked: Asked, tally: &mut Tally) {
+    let count = asked.count;
+    let mut rng = asked.rng(0);
     let mut seen = Seen::default();
     for _ in 0..count {
         let calls = calls::any(&mut rng);
@@ -56,8 +55,9 @@ fn sequences(count: usize, tally: &mut Tally) {
 }
 
 /// States of any words, on which every call is refused or goes on as 01 says.
-fn states(count: usize, tally: &mut Tally) {
-    let mut rng = Rng::new(SEED + 1);
+fn states(asked: Asked, tally: &mut Tally) {
+    let count = asked.count;
+    let mut rng = asked.rng(1);
     let mut seen = Seen::default();
     for _ in 0..count * 4 {
         tally.check(|| calls::compare_state(&mut rng, &mut seen));
@@ -67,8 +67,9 @@ fn states(count: usize, tally: &mut Tally) {
 }
 
 /// Rows that the oracle makes of sources, whole and damaged.
-fn feedings(count: usize, tally: &mut Tally) {
-    let mut rng = Rng::new(SEED + 2);
+fn feedings(asked: Asked, tally: &mut Tally) {
+    let count = asked.count;
+    let mut rng = asked.rng(2);
     let mut seen = Seen::default();
     for _ in 0..count {
         feedings::compare(&mut rng, tally, &mut seen);

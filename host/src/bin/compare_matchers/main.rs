@@ -6,38 +6,36 @@ mod texts;
 
 use host::cases;
 use host::parser::Rule;
-use host::sources::{self, Rng, FRAMES};
-use host::tally::{count_asked, Tally};
+use host::sources::{self, FRAMES};
+use host::tally::{asked, Asked, Tally};
 use matchers::{nodes, Matchers};
 use std::iter::repeat_n;
 use std::process::ExitCode;
 
-const SEED: u64 = 21;
-
-/// How many sources are cut into parts unless `--count` says otherwise.
-const USUAL_COUNT: usize = 800;
+/// How many sources are cut into parts, and the seed, unless the arguments say otherwise.
+const USUAL: Asked = Asked { count: 800, seed: 21 };
 
 /// The letters that a short text has at most: all such texts are tried.
 const SHORT: u32 = 3;
 
 fn main() -> ExitCode {
-    let count = match count_asked(USUAL_COUNT) {
-        Ok(count) => count,
+    let asked = match asked(USUAL) {
+        Ok(asked) => asked,
         Err(usage) => return usage,
     };
     let mut tally = Tally::default();
     let mut matchers = Matchers::new(&mut tally);
-    by_hand(&mut matchers);
-    generated(count, &mut matchers);
+    by_hand(asked, &mut matchers);
+    generated(asked, &mut matchers);
     short(&mut matchers);
-    matchers.finish(count);
-    texts::check(count, &mut tally);
+    matchers.finish(asked.count);
+    texts::check(asked, &mut tally);
     tally.verdict()
 }
 
 /// The sources by hand, whole and cut at every token.
-fn by_hand(matchers: &mut Matchers) {
-    let mut rng = Rng::new(SEED);
+fn by_hand(asked: Asked, matchers: &mut Matchers) {
+    let mut rng = asked.rng(0);
     for source in cases::sources().iter().filter(|source| source.len() < 1000) {
         if let Ok(source) = std::str::from_utf8(source) {
             matchers.part(source);
@@ -50,9 +48,9 @@ fn by_hand(matchers: &mut Matchers) {
 }
 
 /// Sources by chance: cut at every token, each node alone, and damaged copies of both.
-fn generated(count: usize, matchers: &mut Matchers) {
-    let mut rng = Rng::new(SEED + 1);
-    for _ in 0..count {
+fn generated(asked: Asked, matchers: &mut Matchers) {
+    let mut rng = asked.rng(1);
+    for _ in 0..asked.count {
         let source = sources::valid(&mut rng);
         matchers.part(&source);
         let nodes = nodes(&source);

@@ -2,10 +2,8 @@
 
 use host::integer;
 use host::port;
-use host::sources::{self, Rng};
-use host::tally::{Seen, Tally};
-
-const SEED: u64 = 31;
+use host::sources;
+use host::tally::{Asked, Seen, Tally};
 
 /// Under these names reasons are counted, and whether a text is UTF-8.
 const REASON: &str = "reason";
@@ -17,8 +15,9 @@ const PIECES: &[&str] = &[
     "ffffffffffffffff", "10000000000000000", "\u{663}",
 ];
 
-pub fn check(count: usize, tally: &mut Tally) {
-    let mut rng = Rng::new(SEED);
+pub fn check(asked: Asked, tally: &mut Tally) {
+    let count = asked.count;
+    let mut rng = asked.rng(10);
     let mut seen = Seen::default();
     tally.check(|| {
         // P10.

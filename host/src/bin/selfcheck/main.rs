@@ -11,29 +11,27 @@ use host::integer::convert;
 use host::print;
 use host::reading::Refusal;
 use host::sources::{self, Rng, FRAMES};
-use host::tally::{count_asked, Seen, Tally};
+use host::tally::{asked, Asked, Seen, Tally};
 use reading::{ANSWER, CONDITIONAL, KINDS, TEST};
 use std::process::ExitCode;
 
-const SEED: u64 = 1;
-
-/// How many valid sources are made unless `--count` says otherwise.
-const USUAL_COUNT: usize = 60_000;
+/// How many valid sources are made, and the seed, unless the arguments say otherwise.
+const USUAL: Asked = Asked { count: 60_000, seed: 1 };
 
 fn main() -> ExitCode {
-    let count = match count_asked(USUAL_COUNT) {
-        Ok(count) => count,
+    let asked = match asked(USUAL) {
+        Ok(asked) => asked,
         Err(usage) => return usage,
     };
     let mut run = Run::default();
     run.readings();
     run.by_hand();
-    run.valid(count);
-    run.damaged(count);
+    run.valid(asked);
+    run.damaged(asked);
     run.short();
-    run.long(count / 200 + 100);
-    run.alignments(count);
-    run.constructs(count);
+    run.long(asked);
+    run.alignments(asked);
+    run.constructs(asked.count);
     run.tally.verdict()
 }
 
@@ -91,8 +89,9 @@ impl Run {
     }
 
     /// No valid source may be refused for its grammar: the generator is checked, too.
-    fn valid(&mut self, count: usize) {
-        let mut rng = Rng::new(SEED);
+    fn valid(&mut self, asked: Asked) {
+        let count = asked.count;
+        let mut rng = asked.rng(0);
         let mut seen = Seen::default();
         for _ in 0..count {
             let source = sources::valid(&mut rng);
@@ -106,8 +105,9 @@ impl Run {
         seen.print("valid");
     }
 
-    fn damaged(&mut self, count: usize) {
-        let mut rng = Rng::new(SEED + 1);
+    fn damaged(&mut self, asked: Asked) {
+        let count = asked.count;
+        let mut rng = asked.rng(1);
         let mut seen = Seen::default();
         let mut other = String::new();
         for _ in 0..count {
@@ -135,8 +135,9 @@ impl Run {
     }
 
     /// Many declarations, and sources about as long as the program takes.
-    fn long(&mut self, count: usize) {
-        let mut rng = Rng::new(SEED + 2);
+    fn long(&mut self, asked: Asked) {
+        let count = asked.count / 200 + 100;
+        let mut rng = asked.rng(2);
         let mut seen = Seen::default();
         for _ in 0..count {
             let declarations = 5 + rng.below(60);
@@ -152,8 +153,9 @@ impl Run {
         seen.print("long");
     }
 
-    fn alignments(&mut self, count: usize) {
-        let mut rng = Rng::new(SEED + 3);
+    fn alignments(&mut self, asked: Asked) {
+        let count = asked.count;
+        let mut rng = asked.rng(3);
         let mut seen = Seen::default();
         for _ in 0..count {
             self.tally.check(|| aligning::calls(&mut rng, &mut seen));
@@ -195,14 +197,15 @@ const P3: &[u8] = b"little_endian_packets\npacket A {x: 3 , y: 5}";
 /// P3 in tables with words to spare, which stay, and in one that is a word too short.
 fn lent_tables() {
     let mut tables = [20, 45, 3, 0, 7].map(|words| vec![9; words]);
-    let words = read_into(P3, &mut tables);
+    let words = read_into(P3, tables.each_mut().map(Vec::as_mut_slice));
     assert_eq!((words.refusal, words.counts), (Refusal::default(), [1, 2, 0, 0, 0]));
     assert_eq!((tables[0][0], &tables[0][17..]), (2, &[9; 3][..]));
     assert_eq!((tables[1][34], &tables[1][40..]), (5, &[9; 5][..]));
     tables[1].truncate(39);
     let before = tables.clone();
     let refusal = Refusal { number: 5, place: 2, reason: 2 };
-    assert_eq!(read_into(P3, &mut tables), Words { refusal, ..Words::default() });
+    let words = read_into(P3, tables.each_mut().map(Vec::as_mut_slice));
+    assert_eq!(words, Words { refusal, ..Words::default() });
     assert_eq!(tables, before);
 }
 

@@ -59,7 +59,7 @@ fn room(reading: &Reading) {
     }
     let room = std::array::from_fn(|table| reading.tables[table].len() + ROW_WORDS[table] + 1);
     let mut tables = room.map(|words| vec![OLD; words]);
-    let words = write(&Ok(reading.clone()), &mut tables);
+    let words = write(&Ok(reading.clone()), tables.each_mut().map(Vec::as_mut_slice));
     assert_eq!((words.counts, words.endianness), (counts, reading.endianness));
     for (table, rows) in tables.iter().zip(&reading.tables) {
         let (front, rest) = table.split_at(rows.len());

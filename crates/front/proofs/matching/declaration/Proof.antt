@@ -29,7 +29,7 @@ returns-8 : tie.Need-returns-8
 returns-8 c = numbered 57 (c .before .before .match .keys8) (c .extent8 .ensures) (c .before .test-declaration .ensures)
 
 returns-9 : tie.Need-returns-9
-returns-9 c = numbered 58 (c .before .before .match .keys9) (c .extent9 .ensures) (c .before .declaration .ensures .reads)
+returns-9 c = numbered 58 (c .before .before .match .keys9) (c .extent9 .ensures) (c .before .declaration .ensures)
 
 returns-10 : tie.Need-returns-10
 returns-10 c = numbered 59 (c .before .before .match .keys10) (c .extent10 .ensures) (c .before .file .ensures .reads)

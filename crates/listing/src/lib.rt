@@ -1,0 +1,65 @@
+// What the programs list of a source: the rows of its tables, or the layouts of its declarations. A source that is refused has
+// the one line of its refusal in either list.
+ghost use Rattle.listing.specs.Lists.{listed, Lists};
+use printing::answers::put_reading;
+use printing::answers::put_refusal;
+use printing::layouts::put_layouts;
+
+// The longest source that the programs take, in bytes.
+const LONGEST: usize = 16384;
+
+// What is to be listed.
+pub enum Wanted {
+    Tables,
+    Layouts,
+}
+
+// The lines of a source on an empty page; the answer is how many bytes they take.
+pub fn put_source(src: &[u8], wanted: Wanted, page: &mut [u8]) -> usize
+    ensures { λ r. ⌜ Lists (listed wanted (now (src .entry))) (now (page .entry)) r (now (page .exit)) ⌝ }
+{
+    if LONGEST < src.len() {
+        return put_refusal(page, 0, 1, LONGEST as u64, 0);
+    }
+    let mut declarations = [0u64; 680];
+    let mut fields = [0u64; 2000];
+    let mut tags = [0u64; 1200];
+    let mut constraints = [0u64; 720];
+    let mut comments = [0u64; 700];
+    let r = reading::read(
+        src,
+        &mut declarations,
+        &mut fields,
+        &mut tags,
+        &mut constraints,
+        &mut comments,
+    );
+    if r.number != 0 {
+        return put_refusal(page, 0, r.number, r.place, r.reason);
+    }
+    let counts = r.counts;
+    let endianness = r.endianness;
+    match wanted {
+        Wanted::Tables => put_reading(
+            page,
+            0,
+            endianness,
+            counts,
+            &declarations,
+            &fields,
+            &tags,
+            &constraints,
+            &comments,
+        ),
+        Wanted::Layouts => put_layouts(page, 0, counts[0], &declarations, &fields),
+    }
+}
+
+// Reads a source from standard input and writes its list to standard output.
+pub fn print_input(wanted: Wanted) {
+    let mut source = [0u8; 16385];
+    let n = io::read_full(0, &mut source);
+    let mut page = [0u8; 131072];
+    let end = put_source(&source[..n], wanted, &mut page);
+    io::write_all(1, &page[..end]);
+}
