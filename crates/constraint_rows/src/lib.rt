@@ -31,9 +31,9 @@ pub fn row_of(
     let a = text::move_to(s, p, start);
     let b = text::move_to(s, a, start + span.len);
     let value = c.value;
-    let id = walk::span_name(at, c.id);
-    let tag = walk::identifier_name(at, n, value);
-    walk::constraint_row(walk::constraint_kind(value), a, b, id, tag, v)
+    let id = walk::said::span_name(at, c.id);
+    let tag = walk::said::identifier_name(at, n, value);
+    walk::rows::constraint_row(walk::said::constraint_kind(value), a, b, id, tag, v)
 }
 
 // One constraint: its number is noted, its row is written.
@@ -49,7 +49,7 @@ pub fn put_one(
     ensures { λ r. ⌜ WroteConstraints (itemsOf (now (s .entry)) at c) n r (now (t .entry)) (now (t .exit)) ⌝ }
 {
     let value = c.value;
-    let v = walk::token_number(s, at, value);
+    let v = walk::said::token_number(s, at, value);
     let row = row_of(s, at, p, c, v);
     walk::put_constraint(walk::note(n, v), row, t)
 }

@@ -111,9 +111,9 @@ pub fn put_head(
     let parent = only_identifier(over);
     let token = only_integer(bits);
     let function = only_text(quoted);
-    let width = walk::token_number(s, at, token);
-    let id = walk::span_name(at, h.id);
-    let other = walk::other_name(at, size, parent, function);
+    let width = walk::said::token_number(s, at, token);
+    let id = walk::said::span_name(at, h.id);
+    let other = walk::said::other_name(at, size, parent, function);
     let m = constraint_rows::put_span(s, at, p, list, walk::note(n, width), constraints);
     Headed {
         walk: m,

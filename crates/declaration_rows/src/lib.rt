@@ -151,10 +151,10 @@ fn row_of(
     let other = head.other;
     let width = head.width;
     let count = members(kind, last) - members(kind, behind);
-    let first = walk::first_of(members(kind, n), count);
+    let first = walk::rows::first_of(members(kind, n), count);
     let listed = behind.constraints - n.constraints;
-    let list = walk::first_of(n.constraints, listed);
-    walk::declaration_row(kind, p, q, id, other, width, first, count, list, listed)
+    let list = walk::rows::first_of(n.constraints, listed);
+    walk::rows::declaration_row(kind, p, q, id, other, width, first, count, list, listed)
 }
 
 // One declaration of a kind that has a row: the rows of its parts are written, and then its own.

@@ -38,11 +38,11 @@ fn describe(s: &[u8], at: usize, x: Parts) -> Described
     let nb = x.nb;
     Described {
         kind: x.kind,
-        a: walk::field_name(at, n, a),
-        b: walk::identifier_name(at, n, b),
-        c: walk::modifier_name(at, n, c),
-        na: walk::token_number(s, at, na),
-        nb: walk::token_number(s, at, nb),
+        a: walk::said::field_name(at, n, a),
+        b: walk::said::identifier_name(at, n, b),
+        c: walk::said::modifier_name(at, n, c),
+        na: walk::said::token_number(s, at, na),
+        nb: walk::said::token_number(s, at, nb),
     }
 }
 
@@ -86,7 +86,7 @@ fn note_field(s: &[u8], at: usize, p: SourceLocation, f: FieldMatch, n: Walk) ->
     let x = parts_of(desc);
     let said = describe(s, at, x);
     let value = condition_value(cond);
-    let number = walk::token_number(s, at, value);
+    let number = walk::said::token_number(s, at, value);
     let group = x.group;
     let m = note_desc(walk::note(n, number), said);
     Noted {
@@ -147,8 +147,8 @@ fn row_of(
     let cond = f.cond;
     let q = text::move_to(s, p, at + grammar::taken(end));
     let count = group - before;
-    let first = walk::first_of(before, count);
-    walk::field_row(d, p, q, first, count, row_number(cond, last))
+    let first = walk::rows::first_of(before, count);
+    walk::rows::field_row(d, p, q, first, count, row_number(cond, last))
 }
 
 // One field: its numbers are noted, the rows of its constraints and its own are written.

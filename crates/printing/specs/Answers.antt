@@ -4,8 +4,7 @@ use mathlib.Core.List.{List, [], _∷_, _++_}
 use lib.Dec.{eqb}
 use lib.ListN.{getD}
 use Rattle.meaning.specs.Choice.{pick}
-use Rattle.meaning.specs.Tables.{Lent}
-use Rattle.meaning.specs.Reading.{Answer, Outcome}
+use Rattle.meaning.specs.Reading.{Outcome}
 use Rattle.printing.specs.Lines.{line, lines}
 
 -- R

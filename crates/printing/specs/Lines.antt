@@ -1,7 +1,7 @@
 -- The lines that the programs write, as texts: numbers, the line of a row, the lines of rows.
 use Prim.Native.Nat.{ℕ, zero, suc, _+_, _/_, _%_}
 use mathlib.Core.List.{List, [], _∷_, _++_}
-use lib.Dec.{ltb, leb}
+use lib.Dec.{ltb}
 use lib.ListN.{length, take, drop}
 use Rattle.meaning.specs.Choice.{pick}
 

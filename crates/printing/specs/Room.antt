@@ -12,7 +12,7 @@ use borrow.Author.Tests.{lt-ltb, ltb-false}
 use Rattle.meaning.specs.Choice.{pick}
 use Rattle.printing.specs.Pages.{Page, page, put, wrote, Wrote}
 use Rattle.printing.specs.Lines.{digitsOf, decimal, words, line, lines}
-use Rattle.printing.specs.Answers.{tables, reading}
+use Rattle.printing.specs.Answers.{reading}
 
 -- ---- a text that has its room
 put-fits : (b : ℕ) (p : Page) → p .used < length (p .bytes) → put b p ≡ page (p .used + 1) (set (p .bytes) (p .used) b)
@@ -72,7 +72,8 @@ unfolding lines
 lines-room letter size zero t z = omega arith
 lines-room letter size (suc k) t z = go (lines-room letter size k (drop size t) z) (ltb (length t) size) refl
   where
-    go : length (lines letter size k (drop size t)) ≤ 23 * length (drop size t) → (b : Bool) → ltb (length t) size ≡ b → length (pick b [] (line letter (take size t) ++ lines letter size k (drop size t))) ≤ 23 * length t
+    go : length (lines letter size k (drop size t)) ≤ 23 * length (drop size t) → (b : Bool) → ltb (length t) size ≡ b
+        → length (pick b [] (line letter (take size t) ++ lines letter size k (drop size t))) ≤ 23 * length t
     go m true e = omega arith
     go m false e =
         let h : size ≤ length t = ltb-false (length t) size e in

@@ -1,5 +1,4 @@
 // The lines of an answer: E, D, F, T, C, M, or the one line R.
-ghost use mathlib.Core.List.{[], _∷_};
 ghost use Rattle.printing.specs.Pages.{Wrote};
 ghost use Rattle.printing.specs.Answers.{refusal, tables, reading};
 use crate::lines::put_line;

@@ -1,5 +1,5 @@
 // Numbers, the line of a row, and the lines of a table's rows.
-ghost use mathlib.Core.List.{[], _∷_};
+ghost use mathlib.Core.List.{_∷_};
 ghost use Rattle.printing.specs.Pages.{Wrote};
 ghost use Rattle.printing.specs.Lines.{decimal, words, line, lines};
 use crate::pages::put_byte;

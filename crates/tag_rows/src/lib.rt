@@ -30,10 +30,10 @@ pub fn put_value(
     ensures { λ r. ⌜ Done (valueItems (now (s .entry)) kind at len v) (at + len) n r (now (t .entry)) (now (t .exit)) ⌝ }
 {
     let value = v.value;
-    let x = walk::integer_at(s, at + value.start, value.len);
+    let x = walk::said::integer_at(s, at + value.start, value.len);
     let q = text::move_to(s, p, at + len);
-    let id = walk::span_name(at, v.id);
-    let row = walk::tag_row(kind, p, q, id, x, walk::no_number(), 0);
+    let id = walk::said::span_name(at, v.id);
+    let row = walk::rows::tag_row(kind, p, q, id, x, walk::said::no_number(), 0);
     walk::put_tag(walk::note(n, x), row, t)
 }
 
@@ -51,9 +51,9 @@ pub fn put_other(
     ensures { λ r. ⌜ Done (otherItems (now (s .entry)) at len x) (at + len) n r (now (t .entry)) (now (t .exit)) ⌝ }
 {
     let q = text::move_to(s, p, at + len);
-    let id = walk::span_name(at, x.id);
-    let none = walk::no_number();
-    let row = walk::tag_row(3, p, q, id, none, none, 0);
+    let id = walk::said::span_name(at, x.id);
+    let none = walk::said::no_number();
+    let row = walk::rows::tag_row(3, p, q, id, none, none, 0);
     walk::put_tag(n, row, t)
 }
 
@@ -173,8 +173,8 @@ pub fn put_range(
 {
     let low = x.start;
     let high = x.end;
-    let a = walk::integer_at(s, at + low.start, low.len);
-    let b = walk::integer_at(s, at + high.start, high.len);
+    let a = walk::said::integer_at(s, at + low.start, low.len);
+    let b = walk::said::integer_at(s, at + high.start, high.len);
     let m = walk::note(walk::note(n, a), b);
     let u = Walk {
         declarations: m.declarations,
@@ -185,10 +185,10 @@ pub fn put_range(
         reason: m.reason,
     };
     let q = text::move_to(s, p, at + len);
-    let id = walk::span_name(at, x.id);
+    let id = walk::said::span_name(at, x.id);
     let r = put_inner(s, at, p, len, x.tags, u, t);
     let inner = r.tags - u.tags;
-    let row = walk::tag_row(2, p, q, id, a, b, inner);
+    let row = walk::rows::tag_row(2, p, q, id, a, b, inner);
     ast::put_row(t, m.tags, &row);
     r
 }

@@ -1,21 +1,18 @@
-// The walk's state, and what it does with integers, names and rows: row making apart from row writing.
+// The walk's state, and what it does with integers and rows. Row making (`rows`) is apart from row writing.
 ghost use mathlib.Core.Path.{_≡_};
-ghost use Prim.Native.Nat.{_+_, _^_, _-_, _≤_, _<_};
+ghost use Prim.Native.Nat.{_+_, _^_, _<_};
 ghost use mathlib.Core.List.{[], _∷_};
-ghost use lib.ListN.{length};
-ghost use Rattle.meaning.specs.Tables.{Table, row, firstOf};
+ghost use Rattle.meaning.specs.Tables.{Table, row};
 ghost use Rattle.grammar.specs.Matching.{Reads};
 ghost use Rattle.walk.specs.Turns.{comma};
 ghost use Rattle.walk.specs.State.{fresh, noted, WroteTags, WroteConstraints, PutField, PutDeclaration};
-ghost use Rattle.walk.specs.Said.{numberAt, noNumber, tokenNumber, noName, spanName, unquotedName, identifierName, fieldName, modifierName, otherName, Inside, InsideToken, tagWords, constraintKind, constraintWords, fieldWords, declarationWords};
 use ast::numbers;
 use lexis::blanks::then_blanks;
 use lexis::texts::then_literal;
-use meaning::Converted;
 use meaning::Match;
-use meaning::SourceLocation;
-use spans::Span;
-use spans::Token;
+
+pub mod rows;
+pub mod said;
 
 // A comma with the blanks around it.
 pub fn comma(s: &[u8]) -> Match
@@ -69,154 +66,6 @@ pub struct Name {
     pub len: usize,
 }
 
-// The integer in s[at..end].
-pub fn integer_at(s: &[u8], at: usize, len: usize) -> Number
-    requires { ⌜ at + len ≤ length (now s) ⌝ }
-    ensures { λ r. ⌜ r ≡ numberAt (now (s .entry)) at len ⌝ }
-{
-    let end = at + len;
-    let c = text::convert(&s[at..end]);
-    let Converted::Value(v) = c else {
-        return Number {
-            found: 1,
-            place: at,
-            reason: text::reason_of(c),
-            value: 0,
-        };
-    };
-    Number {
-        found: 1,
-        place: at,
-        reason: 0,
-        value: v,
-    }
-}
-
-// No integer.
-pub fn no_number() -> Number
-    ensures { λ r. ⌜ r ≡ noNumber ⌝ }
-{
-    Number {
-        found: 0,
-        place: 0,
-        reason: 0,
-        value: 0,
-    }
-}
-
-// The integer that a token of the text at `at` is, if it is one.
-pub fn token_number(s: &[u8], at: usize, token: Token) -> Number
-    requires { ⌜ (at ≤ length (now s)) × InsideToken (length (now s) - at) token ⌝ }
-    ensures { λ r. ⌜ r ≡ tokenNumber (now (s .entry)) at token ⌝ }
-{
-    match token {
-        Token::Integer(x) => integer_at(s, at + x.start, x.len),
-        Token::Absent => no_number(),
-        Token::Identifier(_) => no_number(),
-        Token::PayloadIdentifier(_) => no_number(),
-        Token::BodyIdentifier(_) => no_number(),
-        Token::Text(_) => no_number(),
-        Token::SizeModifier(_) => no_number(),
-    }
-}
-
-// The name that a span of the text at `at` is.
-pub fn span_name(at: usize, x: Span) -> Name
-    requires { ⌜ at + x .start < 2 ^ 64 ⌝ }
-    ensures { λ r. ⌜ r ≡ spanName at x ⌝ }
-{
-    Name {
-        offset: at + x.start,
-        len: x.len,
-    }
-}
-
-// No name.
-pub fn no_name() -> Name
-    ensures { λ r. ⌜ r ≡ noName ⌝ }
-{
-    Name { offset: 0, len: 0 }
-}
-
-// The name of a token that may be an identifier, in a text of n bytes at `at`.
-pub fn identifier_name(at: usize, n: usize, token: Token) -> Name
-    requires { ⌜ (at + n < 2 ^ 64) × InsideToken n token ⌝ }
-    ensures { λ r. ⌜ r ≡ identifierName at token ⌝ }
-{
-    match token {
-        Token::Identifier(x) => span_name(at, x),
-        Token::Absent => no_name(),
-        Token::PayloadIdentifier(_) => no_name(),
-        Token::BodyIdentifier(_) => no_name(),
-        Token::Integer(_) => no_name(),
-        Token::Text(_) => no_name(),
-        Token::SizeModifier(_) => no_name(),
-    }
-}
-
-// The name of a token that may name a field, the payload or the body.
-pub fn field_name(at: usize, n: usize, token: Token) -> Name
-    requires { ⌜ (at + n < 2 ^ 64) × InsideToken n token ⌝ }
-    ensures { λ r. ⌜ r ≡ fieldName at token ⌝ }
-{
-    match token {
-        Token::Identifier(x) => span_name(at, x),
-        Token::PayloadIdentifier(x) => span_name(at, x),
-        Token::BodyIdentifier(x) => span_name(at, x),
-        Token::Absent => no_name(),
-        Token::Integer(_) => no_name(),
-        Token::Text(_) => no_name(),
-        Token::SizeModifier(_) => no_name(),
-    }
-}
-
-// The name of a token that may be a size modifier.
-pub fn modifier_name(at: usize, n: usize, token: Token) -> Name
-    requires { ⌜ (at + n < 2 ^ 64) × InsideToken n token ⌝ }
-    ensures { λ r. ⌜ r ≡ modifierName at token ⌝ }
-{
-    match token {
-        Token::SizeModifier(x) => span_name(at, x),
-        Token::Absent => no_name(),
-        Token::Identifier(_) => no_name(),
-        Token::PayloadIdentifier(_) => no_name(),
-        Token::BodyIdentifier(_) => no_name(),
-        Token::Integer(_) => no_name(),
-        Token::Text(_) => no_name(),
-    }
-}
-
-// The name that a quoted text is, without its quotes.
-fn unquoted_name(at: usize, x: Span) -> Name
-    requires { ⌜ at + x .start + 1 < 2 ^ 64 ⌝ }
-    ensures { λ r. ⌜ r ≡ unquotedName at x ⌝ }
-{
-    let offset = at + x.start + 1;
-    if x.len < 2 {
-        return Name { offset, len: 0 };
-    }
-    Name {
-        offset,
-        len: x.len - 2,
-    }
-}
-
-// The name of a declaration beside its id: its function's text, or else its parent.
-pub fn other_name(at: usize, n: usize, parent: Token, function: Token) -> Name
-    requires { ⌜ (at + n + 1 < 2 ^ 64) × (InsideToken n parent × InsideToken n function) ⌝ }
-    ensures { λ r. ⌜ r ≡ otherName at parent function ⌝ }
-{
-    match function {
-        Token::Text(x) => unquoted_name(at, x),
-        Token::Absent => identifier_name(at, n, parent),
-        Token::Identifier(_) => identifier_name(at, n, parent),
-        Token::PayloadIdentifier(_) => identifier_name(at, n, parent),
-        Token::BodyIdentifier(_) => identifier_name(at, n, parent),
-        Token::Integer(_) => identifier_name(at, n, parent),
-        Token::SizeModifier(_) => identifier_name(at, n, parent),
-    }
-}
-
 // The state after an integer: the first bad one stays.
 pub fn note(n: Walk, x: Number) -> Walk
     ensures { λ r. ⌜ r ≡ noted (x .place) (x .reason) n ⌝ }
@@ -237,61 +86,6 @@ pub fn note(n: Walk, x: Number) -> Walk
     }
 }
 
-// A tag's row.
-pub fn tag_row(
-    kind: u64,
-    p: SourceLocation,
-    q: SourceLocation,
-    id: Name,
-    v: Number,
-    e: Number,
-    inner: usize,
-) -> [u64; numbers::TAG_WORDS]
-    ensures { λ r. ⌜ r ≡ tagWords kind p q id v e inner ⌝ }
-{
-    [
-        kind,
-        p.offset as u64,
-        p.line as u64,
-        p.column as u64,
-        q.offset as u64,
-        q.line as u64,
-        q.column as u64,
-        id.offset as u64,
-        id.len as u64,
-        v.value,
-        e.value,
-        inner as u64,
-    ]
-}
-
-// A constraint's row.
-pub fn constraint_row(
-    kind: u64,
-    p: SourceLocation,
-    q: SourceLocation,
-    id: Name,
-    tag: Name,
-    v: Number,
-) -> [u64; numbers::CONSTRAINT_WORDS]
-    ensures { λ r. ⌜ r ≡ constraintWords kind p q id tag v ⌝ }
-{
-    [
-        kind,
-        p.offset as u64,
-        p.line as u64,
-        p.column as u64,
-        q.offset as u64,
-        q.line as u64,
-        q.column as u64,
-        id.offset as u64,
-        id.len as u64,
-        tag.offset as u64,
-        tag.len as u64,
-        v.value,
-    ]
-}
-
 // The part of a field's row that its description settles.
 pub struct Described {
     pub kind: u64,
@@ -300,87 +94,6 @@ pub struct Described {
     pub c: Name,
     pub na: Number,
     pub nb: Number,
-}
-
-// A field's row.
-pub fn field_row(
-    d: Described,
-    p: SourceLocation,
-    q: SourceLocation,
-    first: usize,
-    count: usize,
-    cond: usize,
-) -> [u64; numbers::FIELD_WORDS]
-    ensures { λ r. ⌜ r ≡ fieldWords (d .kind) p q (d .a) (d .b) (d .c) (d .na) (d .nb) first count cond ⌝ }
-{
-    [
-        d.kind,
-        p.offset as u64,
-        p.line as u64,
-        p.column as u64,
-        q.offset as u64,
-        q.line as u64,
-        q.column as u64,
-        d.a.offset as u64,
-        d.a.len as u64,
-        d.b.offset as u64,
-        d.b.len as u64,
-        d.c.offset as u64,
-        d.c.len as u64,
-        d.na.found,
-        d.na.value,
-        d.nb.found,
-        d.nb.value,
-        first as u64,
-        count as u64,
-        cond as u64,
-    ]
-}
-
-// A declaration's row.
-pub fn declaration_row(
-    kind: u64,
-    p: SourceLocation,
-    q: SourceLocation,
-    id: Name,
-    other: Name,
-    width: Number,
-    first: usize,
-    count: usize,
-    list: usize,
-    listed: usize,
-) -> [u64; numbers::DECLARATION_WORDS]
-    ensures { λ r. ⌜ r ≡ declarationWords kind p q id other width first count list listed ⌝ }
-{
-    [
-        kind,
-        p.offset as u64,
-        p.line as u64,
-        p.column as u64,
-        q.offset as u64,
-        q.line as u64,
-        q.column as u64,
-        id.offset as u64,
-        id.len as u64,
-        other.offset as u64,
-        other.len as u64,
-        width.found,
-        width.value,
-        first as u64,
-        count as u64,
-        list as u64,
-        listed as u64,
-    ]
-}
-
-// The first row of some, of which none is 0.
-pub fn first_of(first: usize, count: usize) -> usize
-    ensures { λ r. ⌜ r ≡ firstOf first count ⌝ }
-{
-    if count == 0 {
-        return 0;
-    }
-    first
 }
 
 // A tag's row into its table.
@@ -448,20 +161,5 @@ pub fn put_declaration(
         constraints: n.constraints,
         place: n.place,
         reason: n.reason,
-    }
-}
-
-// The kind of a constraint: 2 for a tag, 1 for an integer.
-pub fn constraint_kind(value: Token) -> u64
-    ensures { λ r. ⌜ r ≡ constraintKind value ⌝ }
-{
-    match value {
-        Token::Identifier(_) => 2,
-        Token::Absent => 1,
-        Token::PayloadIdentifier(_) => 1,
-        Token::BodyIdentifier(_) => 1,
-        Token::Integer(_) => 1,
-        Token::Text(_) => 1,
-        Token::SizeModifier(_) => 1,
     }
 }

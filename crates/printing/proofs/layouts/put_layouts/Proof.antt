@@ -1,5 +1,5 @@
 -- `put_layouts` meets its contract: the declarations that are left give the whole page.
-use Prim.Native.Nat.{_+_, _≤_}
+use Prim.Native.Nat.{_+_}
 use mathlib.Core.Path.{_≡_, refl, _∙_}
 use borrow.Author.Needs.{needs}
 use lib.ListN.{length}

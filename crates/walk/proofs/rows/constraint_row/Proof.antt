@@ -1,9 +1,9 @@
 use mathlib.Core.Path.{refl}
 use Rattle.walk.specs.Said.{constraintWords}
-use Rattle.walk.proofs.constraint_row.Statement.{statement}
-use Rattle.walk.proofs.constraint_row.Tie as tie
-use Rattle.walk.proofs.constraint_row.Reads as reads
-use Rattle.walk.proofs.constraint_row.Lts as lts
+use Rattle.walk.proofs.rows.constraint_row.Statement.{statement}
+use Rattle.walk.proofs.rows.constraint_row.Tie as tie
+use Rattle.walk.proofs.rows.constraint_row.Reads as reads
+use Rattle.walk.proofs.rows.constraint_row.Lts as lts
 
 -- src/lib.rt:164:1
 returns : tie.Need-returns

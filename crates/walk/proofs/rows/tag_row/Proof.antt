@@ -1,9 +1,9 @@
 use mathlib.Core.Path.{refl}
 use Rattle.walk.specs.Said.{tagWords}
-use Rattle.walk.proofs.tag_row.Statement.{statement}
-use Rattle.walk.proofs.tag_row.Tie as tie
-use Rattle.walk.proofs.tag_row.Reads as reads
-use Rattle.walk.proofs.tag_row.Lts as lts
+use Rattle.walk.proofs.rows.tag_row.Statement.{statement}
+use Rattle.walk.proofs.rows.tag_row.Tie as tie
+use Rattle.walk.proofs.rows.tag_row.Reads as reads
+use Rattle.walk.proofs.rows.tag_row.Lts as lts
 
 -- src/lib.rt:144:1
 returns : tie.Need-returns

@@ -3,8 +3,8 @@ use mathlib.Core.Path.{_∙_, ap, sym}
 use borrow.Author.Needs.{needs}
 use Rattle.walk.specs.Said.{otherName}
 use Rattle.walk.proofs.Laws.{inside}
-use Rattle.walk.proofs.other_name.Statement.{statement}
-use Rattle.walk.proofs.other_name.Tie as tie
+use Rattle.walk.proofs.said.other_name.Statement.{statement}
+use Rattle.walk.proofs.said.other_name.Tie as tie
 
 unquoted-name-requires : tie.Need-unquoted-name-requires
 unquoted-name-requires c κs =

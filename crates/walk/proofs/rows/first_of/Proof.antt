@@ -1,7 +1,7 @@
 use borrow.Author.Needs.{needs}
 use Rattle.walk.proofs.Laws.{first-some}
-use Rattle.walk.proofs.first_of.Statement.{statement}
-use Rattle.walk.proofs.first_of.Tie as tie
+use Rattle.walk.proofs.rows.first_of.Statement.{statement}
+use Rattle.walk.proofs.rows.first_of.Tie as tie
 
 returns-2 : tie.Need-returns-2
 returns-2 c = first-some _ _ (c .if1 .left)

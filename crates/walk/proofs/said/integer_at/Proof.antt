@@ -1,7 +1,7 @@
 use borrow.Author.Needs.{needs}
 use Rattle.walk.proofs.Laws.{number-bad, number-good}
-use Rattle.walk.proofs.integer_at.Statement.{statement}
-use Rattle.walk.proofs.integer_at.Tie as tie
+use Rattle.walk.proofs.said.integer_at.Statement.{statement}
+use Rattle.walk.proofs.said.integer_at.Tie as tie
 
 returns : tie.Need-returns
 returns c =

@@ -6,8 +6,8 @@ use denote.Ref.{now}
 use lib.ListN.{length}
 use Rattle.walk.specs.Said.{tokenNumber}
 use Rattle.walk.proofs.Laws.{inside}
-use Rattle.walk.proofs.token_number.Statement.{statement}
-use Rattle.walk.proofs.token_number.Tie as tie
+use Rattle.walk.proofs.said.token_number.Statement.{statement}
+use Rattle.walk.proofs.said.token_number.Tie as tie
 
 add-integer-at : tie.Need-add-integer-at
 add-integer-at c = let b = c .before .before .before .before .before in omega (arith, inside (length (now (b .args .s)) - b .args .at) _ _ (c .before .before .token .given .1) (b .pre .1), b .pre .0)

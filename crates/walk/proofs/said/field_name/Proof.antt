@@ -3,8 +3,8 @@ use mathlib.Core.Path.{_∙_, ap, sym}
 use borrow.Author.Needs.{needs}
 use Rattle.walk.specs.Said.{fieldName}
 use Rattle.walk.proofs.Laws.{inside}
-use Rattle.walk.proofs.field_name.Statement.{statement}
-use Rattle.walk.proofs.field_name.Tie as tie
+use Rattle.walk.proofs.said.field_name.Statement.{statement}
+use Rattle.walk.proofs.said.field_name.Tie as tie
 
 span-name-requires : tie.Need-span-name-requires
 span-name-requires c κs =

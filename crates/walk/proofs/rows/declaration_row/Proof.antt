@@ -1,7 +1,7 @@
 use mathlib.Core.Path.{refl}
 use Rattle.walk.specs.Said.{declarationWords}
-use Rattle.walk.proofs.declaration_row.Statement.{statement}
-use Rattle.walk.proofs.declaration_row.Tie as tie
+use Rattle.walk.proofs.rows.declaration_row.Statement.{statement}
+use Rattle.walk.proofs.rows.declaration_row.Tie as tie
 
 returns : tie.Need-returns
 unfolding declarationWords

@@ -1,7 +1,7 @@
 use borrow.Author.Needs.{needs}
 use Rattle.walk.proofs.Laws.{unquoted-short}
-use Rattle.walk.proofs.unquoted_name.Statement.{statement}
-use Rattle.walk.proofs.unquoted_name.Tie as tie
+use Rattle.walk.proofs.said.unquoted_name.Statement.{statement}
+use Rattle.walk.proofs.said.unquoted_name.Tie as tie
 
 returns : tie.Need-returns
 returns c =

@@ -1,9 +1,9 @@
 use mathlib.Core.Path.{refl}
 use Rattle.walk.specs.Said.{fieldWords}
-use Rattle.walk.proofs.field_row.Statement.{statement}
-use Rattle.walk.proofs.field_row.Tie as tie
-use Rattle.walk.proofs.field_row.Reads as reads
-use Rattle.walk.proofs.field_row.Lts as lts
+use Rattle.walk.proofs.rows.field_row.Statement.{statement}
+use Rattle.walk.proofs.rows.field_row.Tie as tie
+use Rattle.walk.proofs.rows.field_row.Reads as reads
+use Rattle.walk.proofs.rows.field_row.Lts as lts
 
 -- src/lib.rt:194:1
 returns : tie.Need-returns
