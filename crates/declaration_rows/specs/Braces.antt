@@ -16,7 +16,7 @@ use Rattle.grammar.specs.Matching.{Within, Steps}
 use Rattle.grammar.specs.Steps.{steps}
 use Rattle.grammar.specs.Nodes.{nil-right, hit-before, hit-behind, taken-after}
 use Rattle.grammar.specs.Drawing.{Draws, Follows, from-start, whole, drawn, then, noted}
-use Rattle.lexis.specs.Skips.{Skips, skips}
+use Rattle.lexis.specs.Skips.{skips}
 use Rattle.spans.specs.Parts.{gap, mark}
 
 -- where a list stands behind a head of n bytes at `at`

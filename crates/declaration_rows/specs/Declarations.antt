@@ -1,8 +1,7 @@
 -- One declaration: what its rows ask of the walk that has come there, and what they leave.
 use Prim.Native.Nat.{ℕ, _+_, _-_, _≤_, _<_}
-use native.Mathlib.Omega.{arith}
-use mathlib.Core.Path.{_≡_, refl, ap, sym, _∙_}
-use mathlib.Core.List.{List, _++_}
+use mathlib.Core.Path.{_≡_, refl, _∙_}
+use mathlib.Core.List.{List}
 use mathlib.Core.Bool.{true}
 use lib.ListN.{length, drop}
 use Rattle.meaning.specs.declared.SourceLocation.{SourceLocation}

@@ -1,12 +1,11 @@
 -- The head of a declaration: what its rows ask of the walk that has come there, and what they leave.
 use Prim.Native.Nat.{ℕ, _+_, _-_, _≤_}
 use native.Mathlib.Omega.{arith}
-use mathlib.Core.Path.{_≡_, refl, ap, subst, sym, _∙_}
+use mathlib.Core.Path.{_≡_, ap, subst, sym, _∙_}
 use mathlib.Core.List.{List, _++_}
 use mathlib.Core.Bool.{true}
 use lib.ListN.{length, drop}
 use Rattle.meaning.specs.declared.SourceLocation.{SourceLocation}
-use Rattle.meaning.specs.Rules.{Rule}
 use Rattle.meaning.specs.Peg.{hit, taken}
 use Rattle.meaning.specs.Forest.{Forest, _⊕_}
 use Rattle.meaning.specs.Pdl.{constraint-list}
@@ -14,14 +13,14 @@ use Rattle.meaning.specs.Places.{placeAt}
 use Rattle.meaning.specs.Tables.{Item}
 use Rattle.spans.specs.declared.Header.{Header}
 use Rattle.spans.specs.declared.Token.{Token}
-use Rattle.spans.specs.Drawn.{leafAt, drawToken, onlyIdentifier, onlyInteger, onlyText, listAt, drawHeader}
+use Rattle.spans.specs.Drawn.{drawToken, onlyIdentifier, onlyInteger, onlyText, listAt, drawHeader}
 use Rattle.walk.specs.declared.Walk.{Walk}
 use Rattle.walk.specs.State.{State, state, noted, emits, Few}
 use Rattle.walk.specs.StateLaws.{emits-append}
 use Rattle.walk.specs.SaidLaws.{said-token, noted-few}
 use Rattle.walk.specs.Said.{tokenNumber, said, spanName, otherName, Inside, InsideToken}
 use Rattle.walk.specs.Held.{Held}
-use Rattle.walk.specs.Insides.{held, held-left, held-right, span-inside, token-inside, wider-token}
+use Rattle.walk.specs.Insides.{held, held-left, held-right, token-inside, wider-token}
 use Rattle.constraint_rows.specs.Spanned.{spanItems, Spanned, WroteSpan}
 use Rattle.declaration_rows.specs.declared.heads.Headed.{Headed}
 use Rattle.declaration_rows.specs.Kinds.{Kind, HeadOf}

@@ -5,7 +5,6 @@ use mathlib.Core.Path.{_≡_, refl, subst, sym}
 use mathlib.Core.List.{List}
 use lib.Dec.{eqb}
 use borrow.Author.Tests.{ne-eqb}
-use Rattle.meaning.specs.declared.Match.{Match}
 use Rattle.meaning.specs.Choice.{pick}
 use Rattle.meaning.specs.Rules.{Rule}
 use Rattle.meaning.specs.Peg.{Peg}

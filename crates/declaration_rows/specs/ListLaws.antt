@@ -2,15 +2,15 @@
 use Prim.Native.Nat.{ℕ, zero, suc, _+_, _-_, _≤_, _<_}
 use native.Mathlib.Omega.{arith}
 use mathlib.Core.Path.{_≡_, refl, ap, subst, sym, _∙_}
-use mathlib.Core.List.{List, [], _∷_, _++_, append-nil, append-assoc}
-use mathlib.Core.Bool.{true, false}
+use mathlib.Core.List.{List, [], _++_, append-nil, append-assoc}
+use mathlib.Core.Bool.{true}
 use lib.ListN.{length, take, drop, length-drop}
 use Rattle.meaning.specs.declared.SourceLocation.{SourceLocation}
 use Rattle.meaning.specs.Peg.{run, bytewise, hit, taken}
 use Rattle.meaning.specs.Forest.{Forest, nil, tree, _⊕_, nodes}
 use Rattle.meaning.specs.Pdl.{skip, declaration}
 use Rattle.meaning.specs.Places.{placeAt}
-use Rattle.meaning.specs.Tables.{Table, Item, rowsOf, count}
+use Rattle.meaning.specs.Tables.{Table, Item, rowsOf}
 use Rattle.meaning.specs.Walk.{node, kinds, kindIn, parse-declaration, parse-kind, parse-toplevel}
 use Rattle.grammar.specs.Steps.{reads, rest-is}
 use Rattle.lexis.specs.Skips.{Skips}

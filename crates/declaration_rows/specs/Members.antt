@@ -17,7 +17,7 @@ use Rattle.meaning.specs.Forest.{Forest, nil, tree, nodes}
 use Rattle.meaning.specs.Pdl.{text, skip, enum-tag, enum-tag-list, field, field-list}
 use Rattle.meaning.specs.Places.{placeAt}
 use Rattle.meaning.specs.Tables.{Table, Item, count}
-use Rattle.meaning.specs.Walk.{each, parse-enum-tag, parse-field-list}
+use Rattle.meaning.specs.Walk.{parse-field-list}
 use Rattle.grammar.specs.Matching.{Steps}
 use Rattle.grammar.specs.Steps.{reads, start, at}
 use Rattle.walk.specs.declared.Walk.{Walk}
@@ -28,7 +28,7 @@ use Rattle.walk.specs.Held.{Held}
 use Rattle.walk.specs.Insides.{took-inside}
 use Rattle.walk.specs.Turns.{list-past}
 use Rattle.walk.specs.Ends.{list-ends}
-use Rattle.walk.specs.Listing.{inside, listOf, list-node, list-taken}
+use Rattle.walk.specs.Listing.{listOf, list-node, list-taken}
 use Rattle.tag_rows.specs.Tags as T
 use Rattle.tag_rows.specs.Placed as P
 use Rattle.field_rows.specs.Lists as F

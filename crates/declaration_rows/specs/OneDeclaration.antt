@@ -1,24 +1,21 @@
 -- One declaration of a kind that has a row: what each of its steps may ask, and what they leave together.
-use Prim.Native.Nat.{ℕ, zero, suc, _+_, _-_, _^_, _≤_, _<_}
+use Prim.Native.Nat.{ℕ, _+_, _-_, _^_, _≤_, _<_}
 use native.Mathlib.Omega.{arith}
 use mathlib.Core.Path.{_≡_, refl, ap, ap₂, subst, sym, _∙_}
 use mathlib.Core.List.{List, [], _∷_, _++_, append-nil}
-use mathlib.Core.Bool.{Bool, true, false}
+use mathlib.Core.Bool.{true}
 use lib.ListN.{length, take, drop}
-use lib.Dec.{eqb}
 use Rattle.meaning.specs.declared.SourceLocation.{SourceLocation}
-use Rattle.meaning.specs.Choice.{pick}
-use Rattle.meaning.specs.Rules.{Rule}
 use Rattle.meaning.specs.Peg.{run, bytewise, hit, taken}
 use Rattle.meaning.specs.Forest.{Forest, nil, tree, _⊕_, nodes}
-use Rattle.meaning.specs.Pdl.{skip, enum-tag, constraint-list, declaration}
+use Rattle.meaning.specs.Pdl.{skip, enum-tag, declaration}
 use Rattle.meaning.specs.Places.{placeAt}
-use Rattle.meaning.specs.Tables.{Table, Item, row, rowsOf, count, firstOf}
-use Rattle.meaning.specs.Walk.{node, part, kinds, kindIn, parse-kind, parse-declaration, parse-toplevel}
+use Rattle.meaning.specs.Tables.{Table, Item, row, count, firstOf}
+use Rattle.meaning.specs.Walk.{node, parse-kind, parse-declaration, parse-toplevel}
 use Rattle.grammar.specs.Steps.{reads, rest-is}
 use Rattle.lexis.specs.Skips.{Skips}
 use Rattle.spans.specs.declared.Header.{Header}
-use Rattle.spans.specs.Drawn.{drawHeader, listAt, onlyIdentifier, onlyInteger, onlyText}
+use Rattle.spans.specs.Drawn.{drawHeader, onlyIdentifier, onlyInteger, onlyText}
 use Rattle.walk.specs.declared.Walk.{Walk}
 use Rattle.walk.specs.declared.Walked.{Walked}
 use Rattle.walk.specs.State.{State, state, emits, Few, PutDeclaration}
@@ -40,7 +37,7 @@ use Rattle.declaration_rows.specs.Heads.{headItems, HeadAt, WroteHead, h
 use Rattle.declaration_rows.specs.Said.{declarationItems, declaration-said}
 use Rattle.declaration_rows.specs.Sorts.{no-declarations}
 use Rattle.declaration_rows.specs.Seen.{own, Seen, seen, one-at, own-tallied, own-grown, head-constraints, head-sorted, members-sorted}
-use Rattle.declaration_rows.specs.Declarations.{takes-byte, Tallied, declarationRow, Rowed, Ready, ReadyKind, WroteOne}
+use Rattle.declaration_rows.specs.Declarations.{takes-byte, Tallied, declarationRow, Rowed, ReadyKind, WroteOne}
 
 -- a declaration's node, and no other
 one-node : {k : ℕ} → Numbered k → (src : List ℕ) (xs : List Item) (s l : ℕ) (kids : Forest) → parse-toplevel src xs (tree (kindOf k .root) s l kids nil) ≡ parse-declaration src xs k (node s l kids nil)

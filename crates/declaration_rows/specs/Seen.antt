@@ -16,7 +16,6 @@ use Rattle.meaning.specs.Tables.{Table, Item, int, rowsOf, count}
 use Rattle.meaning.specs.Walk.{parse-enum-tag, parse-field-list}
 use Rattle.grammar.specs.Nodes.{nodes-rule}
 use Rattle.spans.specs.declared.Span.{Span}
-use Rattle.spans.specs.declared.Token.{Token}
 use Rattle.spans.specs.declared.Header.{Header}
 use Rattle.spans.specs.Drawn.{listAt, onlyInteger}
 use Rattle.walk.specs.declared.Walk.{Walk}

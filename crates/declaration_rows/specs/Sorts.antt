@@ -1,11 +1,10 @@
 -- Items by the tables of their rows: which tables they write, and that every row has its table's size.
 use Prim.Native.Nat.{ℕ}
 use native.Mathlib.Omega.{arith}
-use mathlib.Core.Path.{_≡_, refl, _∙_, sym}
+use mathlib.Core.Path.{_≡_, refl}
 use mathlib.Core.List.{List, [], _∷_, _++_}
 use mathlib.Core.Bool.{Bool, true, false}
 use lib.ListN.{length}
-use lib.Dec.{eqb}
 use Rattle.meaning.specs.Choice.{pick}
 use Rattle.meaning.specs.Rules.{Rule, is}
 use Rattle.meaning.specs.Forest.{Forest, nil, tree}

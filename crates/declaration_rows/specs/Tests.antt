@@ -9,8 +9,8 @@ use Rattle.meaning.specs.declared.Match.{Match}
 use Rattle.meaning.specs.declared.SourceLocation.{SourceLocation}
 use Rattle.meaning.specs.Rules.{Rule}
 use Rattle.meaning.specs.Peg.{run, bytewise, hit, taken}
-use Rattle.meaning.specs.Forest.{Forest, nil, tree, nodes}
-use Rattle.meaning.specs.Pdl.{test-declaration, declaration}
+use Rattle.meaning.specs.Forest.{Forest, nodes}
+use Rattle.meaning.specs.Pdl.{test-declaration}
 use Rattle.meaning.specs.Tables.{Item}
 use Rattle.meaning.specs.Walk.{parse-toplevel}
 use Rattle.grammar.specs.Matching.{Reads}

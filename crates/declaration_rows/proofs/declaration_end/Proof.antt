@@ -1,7 +1,7 @@
 use Rattle.meaning.specs.Peg.{seq}
 use Rattle.meaning.specs.Pdl.{text, skip}
 use native.Mathlib.Omega.{arith}
-use mathlib.Core.Path.{ap, sym, _∙_}
+use mathlib.Core.Path.{_∙_}
 use denote.Ref.{now}
 use Rattle.declaration_rows.specs.Members.{taken-in, taken-is}
 use Rattle.declaration_rows.specs.Wholes.{bare-end, braced-end}

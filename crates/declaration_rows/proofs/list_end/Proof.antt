@@ -1,7 +1,6 @@
 use Rattle.meaning.specs.Peg.{seq, opt}
 use Rattle.meaning.specs.Pdl.{text, skip}
 use native.Mathlib.Omega.{arith}
-use mathlib.Core.Path.{ap, sym, _∙_}
 use denote.Ref.{now}
 use Rattle.declaration_rows.specs.Members.{taken-in, taken-is}
 use borrow.Author.Needs.{needs}

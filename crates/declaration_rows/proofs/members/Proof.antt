@@ -1,5 +1,4 @@
 use Rattle.declaration_rows.specs.Members.{members-tags, members-fields}
-use borrow.Author.Needs.{needs}
 use Rattle.declaration_rows.proofs.members.Statement.{statement}
 use Rattle.declaration_rows.proofs.members.Tie as tie
 
