@@ -1,6 +1,7 @@
 // What the programs list of a source: the rows of its tables, or the layouts of its declarations. A source that is refused has
 // the one line of its refusal in either list.
 ghost use Rattle.listing.specs.Lists.{listed, Lists};
+use ast::numbers;
 use printing::answers::put_reading;
 use printing::answers::put_refusal;
 use printing::layouts::put_layouts;
@@ -19,13 +20,13 @@ pub fn put_source(src: &[u8], wanted: Wanted, page: &mut [u8]) -> usize
     ensures { λ r. ⌜ Lists (listed wanted (now (src .entry))) (now (page .entry)) r (now (page .exit)) ⌝ }
 {
     if LONGEST < src.len() {
-        return put_refusal(page, 0, 1, LONGEST as u64, 0);
+        return put_refusal(page, 0, numbers::TOO_LONG, LONGEST as u64, 0);
     }
-    let mut declarations = [0u64; 680];
-    let mut fields = [0u64; 2000];
-    let mut tags = [0u64; 1200];
-    let mut constraints = [0u64; 720];
-    let mut comments = [0u64; 700];
+    let mut declarations = [0u64; 40 * numbers::DECLARATION_WORDS];
+    let mut fields = [0u64; 100 * numbers::FIELD_WORDS];
+    let mut tags = [0u64; 100 * numbers::TAG_WORDS];
+    let mut constraints = [0u64; 60 * numbers::CONSTRAINT_WORDS];
+    let mut comments = [0u64; 100 * numbers::COMMENT_WORDS];
     let r = reading::read(
         src,
         &mut declarations,

@@ -3,6 +3,7 @@ ghost use Rattle.printing.specs.Pages.{Wrote};
 ghost use Rattle.printing.specs.Answers.{refusal, tables, reading};
 use crate::lines::put_line;
 use crate::lines::put_lines;
+use ast::numbers;
 
 // The line of a refusal.
 pub fn put_refusal(page: &mut [u8], at: usize, number: u64, place: u64, reason: u64) -> usize
@@ -25,11 +26,25 @@ fn put_tables(
 ) -> usize
     ensures { λ r. ⌜ Wrote (tables counts (now (declarations .entry)) (now (fields .entry)) (now (tags .entry)) (now (constraints .entry)) (now (comments .entry))) at (now (page .entry)) r (now (page .exit)) ⌝ }
 {
-    let d = put_lines(page, at, b'D', 17, counts[0], declarations);
-    let f = put_lines(page, d, b'F', 20, counts[1], fields);
-    let t = put_lines(page, f, b'T', 12, counts[2], tags);
-    let c = put_lines(page, t, b'C', 12, counts[3], constraints);
-    put_lines(page, c, b'M', 7, counts[4], comments)
+    let d = put_lines(
+        page,
+        at,
+        b'D',
+        numbers::DECLARATION_WORDS,
+        counts[0],
+        declarations,
+    );
+    let f = put_lines(page, d, b'F', numbers::FIELD_WORDS, counts[1], fields);
+    let t = put_lines(page, f, b'T', numbers::TAG_WORDS, counts[2], tags);
+    let c = put_lines(
+        page,
+        t,
+        b'C',
+        numbers::CONSTRAINT_WORDS,
+        counts[3],
+        constraints,
+    );
+    put_lines(page, c, b'M', numbers::COMMENT_WORDS, counts[4], comments)
 }
 
 // The lines of an accepted source: its endianness, and the rows of all tables.

@@ -3,14 +3,15 @@ ghost use Rattle.printing.specs.Pages.{Wrote};
 ghost use Rattle.printing.specs.Layouts.{laid, layoutOf, layouts};
 use crate::lines::put_line;
 use crate::lines::put_lines;
+use ast::numbers;
 
 // A layout's line, and those of its rows: row, number, place, reason, placed rows, chunk rows.
 fn put_laid(page: &mut [u8], at: usize, answer: [u64; 6], placed: &[u64], chunks: &[u64]) -> usize
     ensures { λ r. ⌜ Wrote (laid answer (now (placed .entry)) (now (chunks .entry))) at (now (page .entry)) r (now (page .exit)) ⌝ }
 {
     let l = put_line(page, at, b'L', &answer);
-    let p = put_lines(page, l, b'P', 3, answer[4], placed);
-    put_lines(page, p, b'K', 5, answer[5], chunks)
+    let p = put_lines(page, l, b'P', numbers::PLACED_WORDS, answer[4], placed);
+    put_lines(page, p, b'K', numbers::CHUNK_WORDS, answer[5], chunks)
 }
 
 // The layout of a declaration row, none where it is no packet, struct or group.
@@ -20,7 +21,7 @@ fn put_layout(page: &mut [u8], at: usize, k: usize, declarations: &[u64], fields
     let mut placed = [0u64; 300];
     let mut chunks = [0u64; 500];
     let r = layout::lay_out(declarations, fields, k, &mut placed, &mut chunks);
-    if r.number == 15 {
+    if r.number == numbers::NO_SUCH_DECLARATION {
         return at;
     }
     let answer = [
