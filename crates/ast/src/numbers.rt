@@ -1,4 +1,8 @@
-// The numbers of 01 that the code shares: row sizes, table numbers, refusal numbers. The meaning has its own (specs/Tables).
+// The numbers of 01 that the code shares: row sizes, table numbers, refusal numbers. The meaning has its own (specs/Tables);
+// the lists at the end hold the two together.
+ghost use mathlib.Core.Path.{_≡_};
+ghost use mathlib.Core.List.{[], _∷_};
+ghost use Rattle.meaning.specs.Tables.{Table, number, size};
 
 // Words in a row of each table of a reading.
 pub const DECLARATION_WORDS: usize = 17;
@@ -58,3 +62,48 @@ pub const END_WHILE_STAGED: u64 = 16;
 pub const DAMAGED_ROW: u64 = 17;
 
 pub const CONTRADICTORY_STATE: u64 = 18;
+
+// The sizes of rows, table by table, then those of the aligner's tables.
+pub fn row_words() -> [usize; 7]
+    ensures { λ r. ⌜ r ≡ size Table.declarations ∷ size Table.fields ∷ size Table.tags ∷ size Table.constraints ∷ size Table.comments ∷ 3 ∷ 5 ∷ [] ⌝ }
+{
+    [
+        DECLARATION_WORDS,
+        FIELD_WORDS,
+        TAG_WORDS,
+        CONSTRAINT_WORDS,
+        COMMENT_WORDS,
+        PLACED_WORDS,
+        CHUNK_WORDS,
+    ]
+}
+
+// The tables' numbers, in the same order.
+pub fn table_numbers() -> [u64; 5]
+    ensures { λ r. ⌜ r ≡ number Table.declarations ∷ number Table.fields ∷ number Table.tags ∷ number Table.constraints ∷ number Table.comments ∷ [] ⌝ }
+{
+    [DECLARATIONS, FIELDS, TAGS, CONSTRAINTS, COMMENTS]
+}
+
+// The refusals' numbers, as 01's table has them.
+pub fn refusal_numbers() -> [u64; 15]
+    ensures { λ r. ⌜ r ≡ 1 ∷ 2 ∷ 3 ∷ 4 ∷ 5 ∷ 6 ∷ 10 ∷ 11 ∷ 12 ∷ 13 ∷ 14 ∷ 15 ∷ 16 ∷ 17 ∷ 18 ∷ [] ⌝ }
+{
+    [
+        TOO_LONG,
+        NOT_UTF8,
+        NO_MATCH,
+        NOT_CONVERTED,
+        TOO_FEW_ROWS,
+        NAME_OUTSIDE,
+        BYTES_WHILE_STAGED,
+        NOT_WHOLE_BYTES,
+        TOO_WIDE,
+        TABLE_FULL,
+        WIDTH_NOT_IN_SYNTAX,
+        NO_SUCH_DECLARATION,
+        END_WHILE_STAGED,
+        DAMAGED_ROW,
+        CONTRADICTORY_STATE,
+    ]
+}

@@ -1,0 +1,106 @@
+"""Has the prover try wrong edits of a crate, each on a copy of the repository, over what it has checked of that crate before."""
+
+import os
+import shutil
+import subprocess
+from pathlib import Path
+from typing import List, NamedTuple
+
+REFUSED, SURVIVED, RAN, INVALID, OPEN = "refused", "survived", "refused by its output", "does not compile", "no verdict"
+
+
+class Replacement(NamedTuple):
+    """A file of a crate, and a text in it that gives way to another."""
+
+    file: str
+    old: str
+    new: str
+
+
+def replacements(edit: Path) -> List[Replacement]:
+    """What an .edit file asks for: a 'file:' line holds for the 'old:' and 'new:' pairs behind it."""
+    made, file, old = [], "", ""
+    for line in edit.read_text(encoding="utf-8").splitlines():
+        if line.startswith("file: "):
+            file = line[6:]
+        elif line.startswith("old: "):
+            old = line[5:]
+        elif line.startswith("new:"):
+            made.append(Replacement(file, old, line[4:].removeprefix(" ")))
+    return made
+
+
+def replaced(text: str, old: str, new: str) -> str:
+    """A text with another for a part that stands in it once."""
+    if text.count(old) != 1:
+        raise ValueError(f"'{old}' stands {text.count(old)} times")
+    return text.replace(old, new)
+
+
+class Copy:
+    """A copy of the repository's crates, with the libraries that are proved already."""
+
+    def __init__(self, root: Path, place: Path):
+        self.root, self.top = root, place
+        shutil.rmtree(place, ignore_errors=True)
+        target = place / "target"
+        target.mkdir(parents=True)
+        shutil.copy(root / "crates.txt", place)
+        shutil.copytree(root / "crates", place / "crates", ignore=shutil.ignore_patterns("must-fail", "mutants", "equal"))
+        shutil.copytree(root / "target/stamp", target / "stamp")
+        os.symlink(root / "target/rlib", target / "rlib")
+
+    def prime(self, crate: str, limit: int):
+        """Checks a crate as it is, and keeps what was checked for every edit of it."""
+        verdict, said = self.check(crate, limit)
+        if verdict != SURVIVED:
+            raise RuntimeError(f"{crate} is not proved as it is:\n{said[-2000:]}")
+        self.kept = self.top / "kept"
+        shutil.rmtree(self.kept, ignore_errors=True)
+        shutil.move(self.checked(crate), self.kept)
+
+    def checked(self, crate: str) -> Path:
+        return self.top / "target/inc" / crate
+
+    def verdict(self, crate: str, wanted: List[Replacement], limit: int) -> str:
+        """What the prover says of a crate with these replacements."""
+        own = self.top / "crates" / crate
+        files = {part.file: (own / part.file).read_text(encoding="utf-8") for part in wanted}
+        texts = dict(files)
+        for part in wanted:
+            texts[part.file] = replaced(texts[part.file], part.old, part.new)
+        shutil.rmtree(self.checked(crate), ignore_errors=True)
+        shutil.copytree(self.kept, self.checked(crate))
+        try:
+            for file, text in texts.items():
+                (own / file).write_text(text, encoding="utf-8")
+            verdict = self.check(crate, limit)[0]
+            if verdict == SURVIVED and (own / "src/main.rt").exists():
+                verdict = self.output(crate, limit)
+            return verdict
+        finally:
+            for file, text in files.items():
+                (own / file).write_text(text, encoding="utf-8")
+
+    def check(self, crate: str, limit: int):
+        status, said = self.rt("dev", crate, limit)
+        if "\nlogic=proved" in said and status == 0:
+            return SURVIVED, said
+        if "\nlogic=not-proved" in said:
+            return REFUSED, said
+        return (OPEN if status in (None, 3) else INVALID), said
+
+    def output(self, crate: str, limit: int) -> str:
+        """Whether a program that is proved still writes what its file 'stdout' has."""
+        status, said = self.rt("check", crate, limit)
+        return RAN if status == 1 and f"rt: {crate} proved, and its run FAILED" in said else SURVIVED
+
+    def rt(self, command: str, crate: str, limit: int):
+        words = ["rt", command, crate]
+        with subprocess.Popen(words, cwd=self.top, stdout=subprocess.PIPE, stderr=subprocess.STDOUT, start_new_session=True) as run:
+            try:
+                said = run.communicate(timeout=limit)[0]
+                return run.returncode, said.decode("utf-8", "replace")
+            except subprocess.TimeoutExpired:
+                os.killpg(run.pid, 9)
+                return None, ""
