@@ -9,6 +9,13 @@ from typing import List, NamedTuple
 REFUSED, SURVIVED, RAN, INVALID, OPEN = "refused", "survived", "refused by its output", "does not compile", "no verdict"
 
 
+class Verdict(NamedTuple):
+    """What became of an edit, and the first error that the prover found."""
+
+    word: str
+    error: str = ""
+
+
 class Replacement(NamedTuple):
     """A file of a crate, and a text in it that gives way to another."""
 
@@ -52,9 +59,9 @@ class Copy:
 
     def prime(self, crate: str, limit: int):
         """Checks a crate as it is, and keeps what was checked for every edit of it."""
-        verdict, said = self.check(crate, limit)
-        if verdict != SURVIVED:
-            raise RuntimeError(f"{crate} is not proved as it is:\n{said[-2000:]}")
+        verdict = self.check(crate, limit)
+        if verdict.word != SURVIVED:
+            raise RuntimeError(f"{crate} is {verdict.word} as it is: {verdict.error}")
         self.kept = self.top / "kept"
         shutil.rmtree(self.kept, ignore_errors=True)
         shutil.move(self.checked(crate), self.kept)
@@ -62,7 +69,7 @@ class Copy:
     def checked(self, crate: str) -> Path:
         return self.top / "target/inc" / crate
 
-    def verdict(self, crate: str, wanted: List[Replacement], limit: int) -> str:
+    def verdict(self, crate: str, wanted: List[Replacement], limit: int) -> Verdict:
         """What the prover says of a crate with these replacements."""
         own = self.top / "crates" / crate
         files = {part.file: (own / part.file).read_text(encoding="utf-8") for part in wanted}
@@ -74,26 +81,30 @@ class Copy:
         try:
             for file, text in texts.items():
                 (own / file).write_text(text, encoding="utf-8")
-            verdict = self.check(crate, limit)[0]
-            if verdict == SURVIVED and (own / "src/main.rt").exists():
+            verdict = self.check(crate, limit)
+            if verdict.word == SURVIVED and (own / "src/main.rt").exists():
                 verdict = self.output(crate, limit)
             return verdict
         finally:
             for file, text in files.items():
                 (own / file).write_text(text, encoding="utf-8")
 
-    def check(self, crate: str, limit: int):
+    def check(self, crate: str, limit: int) -> Verdict:
         status, said = self.rt("dev", crate, limit)
-        if "\nlogic=proved" in said and status == 0:
-            return SURVIVED, said
+        if status == 0 and "\nlogic=proved" in said:
+            return Verdict(SURVIVED)
         if "\nlogic=not-proved" in said:
-            return REFUSED, said
-        return (OPEN if status in (None, 3) else INVALID), said
+            return Verdict(REFUSED, self.first_error(said))
+        return Verdict(OPEN if status in (None, 3) else INVALID, self.first_error(said))
 
-    def output(self, crate: str, limit: int) -> str:
+    def first_error(self, said: str) -> str:
+        lines = (line for line in said.splitlines() if ": error" in line)
+        return next(lines, "").replace(f"{self.top}/crates/", "")[:300]
+
+    def output(self, crate: str, limit: int) -> Verdict:
         """Whether a program that is proved still writes what its file 'stdout' has."""
         status, said = self.rt("check", crate, limit)
-        return RAN if status == 1 and f"rt: {crate} proved, and its run FAILED" in said else SURVIVED
+        return Verdict(RAN if status == 1 and f"rt: {crate} proved, and its run FAILED" in said else SURVIVED)
 
     def rt(self, command: str, crate: str, limit: int):
         words = ["rt", command, crate]
