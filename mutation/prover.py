@@ -2,7 +2,9 @@
 
 import os
 import shutil
+import signal
 import subprocess
+import threading
 from pathlib import Path
 from typing import List, NamedTuple
 
@@ -108,10 +110,35 @@ class Copy:
 
     def rt(self, command: str, crate: str, limit: int):
         words = ["rt", command, crate]
-        with subprocess.Popen(words, cwd=self.top, stdout=subprocess.PIPE, stderr=subprocess.STDOUT, start_new_session=True) as run:
+        with RUNNING.started(words, self.top) as run:
             try:
                 said = run.communicate(timeout=limit)[0]
                 return run.returncode, said.decode("utf-8", "replace")
             except subprocess.TimeoutExpired:
-                os.killpg(run.pid, 9)
+                os.killpg(run.pid, signal.SIGKILL)
                 return None, ""
+
+
+class Running:
+    """The checks that run now, each with all that it starts in a group of its own, so that none outlives the command."""
+
+    def __init__(self):
+        self.groups, self.lock, self.stopped = [], threading.Lock(), False
+
+    def started(self, words: List[str], folder: Path) -> subprocess.Popen:
+        with self.lock:
+            if self.stopped:
+                raise RuntimeError("stopped")
+            run = subprocess.Popen(words, cwd=folder, stdout=subprocess.PIPE, stderr=subprocess.STDOUT, start_new_session=True)
+            self.groups = [other for other in self.groups if other.poll() is None] + [run]
+            return run
+
+    def stop(self):
+        with self.lock:
+            self.stopped = True
+            for run in self.groups:
+                if run.poll() is None:
+                    os.killpg(run.pid, signal.SIGKILL)
+
+
+RUNNING = Running()
