@@ -46,18 +46,26 @@ def replaced(text: str, old: str, new: str) -> str:
     return text.replace(old, new)
 
 
-class Copy:
-    """A copy of the repository's crates, with the libraries that are proved already."""
+def snapshot(root: Path, place: Path) -> Path:
+    """The repository as it is now, with the libraries that are proved."""
+    place.mkdir(parents=True)
+    shutil.copy(root / "crates.txt", place)
+    for folder in ("crates", "target/stamp", "target/rlib"):
+        shutil.copytree(root / folder, place / folder)
+    return place
 
-    def __init__(self, root: Path, place: Path):
-        self.root, self.top = root, place
+
+class Copy:
+    """A copy of a snapshot's crates, over the snapshot's libraries."""
+
+    def __init__(self, source: Path, place: Path):
+        self.top = place
         shutil.rmtree(place, ignore_errors=True)
-        target = place / "target"
-        target.mkdir(parents=True)
-        shutil.copy(root / "crates.txt", place)
-        shutil.copytree(root / "crates", place / "crates", ignore=shutil.ignore_patterns("must-fail", "mutants", "equal"))
-        shutil.copytree(root / "target/stamp", target / "stamp")
-        os.symlink(root / "target/rlib", target / "rlib")
+        place.mkdir(parents=True)
+        shutil.copy(source / "crates.txt", place)
+        for folder in ("crates", "target/stamp"):
+            shutil.copytree(source / folder, place / folder)
+        os.symlink(source / "target/rlib", place / "target/rlib")
 
     def prime(self, crate: str, limit: int):
         """Checks a crate as it is, and keeps what was checked for every edit of it."""
