@@ -1,7 +1,7 @@
 -- What an entry answers of a rule, from what the rule's matcher answers.
 use Prim.Native.Nat.{ℕ, zero, suc, _+_, _≤_}
 use native.Mathlib.Omega.{arith}
-use mathlib.Core.Path.{_≡_, refl, sym, ap, _∙_}
+use mathlib.Core.Path.{_≡_, refl, sym, ap, subst, _∙_}
 use mathlib.Core.List.{List, [], _∷_}
 use mathlib.Core.Bool.{Bool, true, false}
 use lib.ListN.{length, getD, List·getD-eq-default}
@@ -12,6 +12,7 @@ use Rattle.meaning.specs.Choice.{pick, both, either}
 use Rattle.meaning.specs.Peg.{Peg, lit, range, neg, alt, join, orElse, within, run, bytewise}
 use Rattle.meaning.specs.Pdl.{text, WHITESPACE, alpha, digit, hexdigit, alphanum, EOI}
 use Rattle.grammar.specs.Matching.{Reads}
+use Rattle.grammar.specs.Steps.{reads}
 use Rattle.lexis.specs.declared.bytes.Class.{Class}
 use Rattle.lexis.specs.declared.bytes.Class.the-variants.{Space, Alpha, Alphanum, Digit, Hexdigit}
 use Rattle.lexis.specs.Classes.{classed, one-of}
@@ -21,17 +22,20 @@ use Rattle.front.specs.Numbers.{printed, ruled, extent}
 pub extent-took : (m : Match) (n f : ℕ) → m ≡ Took n f → n + 1 ≡ extent m
 extent-took m n f e = sym (ap extent e)
 
--- ---- a rule by its number k
-pub numbered : (k : ℕ) {n x : ℕ} {t : List ℕ} {m : Match} → n ≡ k → x ≡ extent m → Reads (getD printed k (neg (text ""))) t m
-    → x ≡ extent (run (bytewise (ruled n)) t)
-unfolding ruled
-numbered k {n} {x} {t} {m} e q h =
-    q ∙ ap extent (h .is) ∙ ap (λ (i : ℕ). extent (run (bytewise (getD printed i (neg (text "")))) t)) (sym e)
+pub measured : {g : Peg} {t : List ℕ} {m : Match} {x : ℕ} → x ≡ extent m → Reads g t m → x ≡ extent (run (bytewise g) t)
+measured e h = e ∙ ap extent (h .is)
 
-pub told : (k : ℕ) {n x : ℕ} (t : List ℕ) → n ≡ k → x ≡ extent (run (bytewise (getD printed k (neg (text "")))) t)
-    → x ≡ extent (run (bytewise (ruled n)) t)
+-- ---- a rule by its number k
+abbrev rule-at : ℕ → Peg
+rule-at k = getD printed k (neg (text ""))
+
+pub numbered : (k : ℕ) {n : ℕ} {t : List ℕ} {m : Match} → n ≡ k → Reads (rule-at k) t m → Reads (ruled n) t m
 unfolding ruled
-told k {n} {x} t e q = q ∙ ap (λ (i : ℕ). extent (run (bytewise (getD printed i (neg (text "")))) t)) (sym e)
+numbered k {n} {t} {m} e h = subst (λ (i : ℕ). Reads (rule-at i) t m) (sym e) h
+
+pub told : (k : ℕ) {n x : ℕ} (t : List ℕ) → n ≡ k → x ≡ extent (run (bytewise (rule-at k)) t) → x ≡ extent (run (bytewise (ruled n)) t)
+unfolding ruled
+told k {n} {x} t e q = q ∙ ap (λ (i : ℕ). extent (run (bytewise (rule-at i)) t)) (sym e)
 
 -- n is none of i numbers from b on, as a match with an arm for each says
 abbrev None : ℕ → ℕ → ℕ → Type 0
@@ -42,20 +46,20 @@ pub above : (b i n : ℕ) → b ≤ n → None b i n → b + i ≤ n
 above b zero n h r = omega arith
 above b (suc i) n h r = let k : b + i ≤ n = above b i n h (r .0) in let d : n ≡ b + i → ⊥ = r .1 in omega arith
 
-pub beyond : (n : ℕ) (t : List ℕ) → 60 ≤ n → 0 ≡ extent (run (bytewise (ruled n)) t)
+pub beyond : (n : ℕ) (t : List ℕ) → 60 ≤ n → Reads (ruled n) t (Missed 0)
 unfolding ruled run
-beyond n t h = rw (List·getD-eq-default printed (neg (text "")) h) refl
+beyond n t h = rw (List·getD-eq-default printed (neg (text "")) h) (reads (neg (text "")) t (Missed 0) refl)
 
 -- ---- the end of input
-pub end-here : (t : List ℕ) → length t ≡ 0 → 1 ≡ extent (run (bytewise EOI) t)
+pub end-here : (t : List ℕ) → length t ≡ 0 → Reads EOI t (Took 0 0)
 unfolding EOI run
-end-here [] e = refl
+end-here [] e = reads EOI [] (Took 0 0) refl
 end-here (x ∷ t) e = absurd (omega arith)
 
-pub end-later : (t : List ℕ) → (length t ≡ 0 → ⊥) → 0 ≡ extent (run (bytewise EOI) t)
+pub end-later : (t : List ℕ) → (length t ≡ 0 → ⊥) → Reads EOI t (Missed 1)
 unfolding EOI run
 end-later [] n = absurd (n refl)
-end-later (x ∷ t) n = refl
+end-later (x ∷ t) n = reads EOI (x ∷ t) (Missed 1) refl
 
 -- ---- one byte of a class
 join-extent : (f : ℕ) (m : Match) → extent (join 0 f m) ≡ extent m
