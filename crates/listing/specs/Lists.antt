@@ -26,7 +26,7 @@ laidOut o =
     let a = o .answer in
     pick (eqb (a .number) 0) (layouts (o .left .w1) (o .left .w2) (getD (a .counts) 0 0) 0) (refusal (a .number) (a .place) (a .reason))
 
-abbrev pub linesOf : Wanted → Outcome → List ℕ
+unfoldable pub linesOf : Wanted → Outcome → List ℕ
 linesOf Tables o = answered o
 linesOf Layouts o = laidOut o
 

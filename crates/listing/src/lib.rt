@@ -1,10 +1,14 @@
 // What the programs list of a source: the rows of its tables, or the layouts of its declarations. A source that is refused has
 // the one line of its refusal in either list.
-ghost use Rattle.listing.specs.Lists.{listed, Lists};
+ghost use mathlib.Core.Path.{_≡_};
+ghost use lib.ListN.{length};
+ghost use Rattle.reading.specs.Outcomes.{outcome};
+ghost use Rattle.listing.specs.Lists.{linesOf, listed, Lists};
 use ast::numbers;
 use printing::answers::put_reading;
 use printing::answers::put_refusal;
 use printing::layouts::put_layouts;
+use reading::Answer;
 
 // The longest source that the programs take, in bytes.
 const LONGEST: usize = 16384;
@@ -13,6 +17,48 @@ const LONGEST: usize = 16384;
 pub enum Wanted {
     Tables,
     Layouts,
+}
+
+// A page that has room for the rows of all tables below.
+pub fn empty_page() -> [u8; 131072]
+    ensures { λ r. ⌜ 131072 ≡ length r ⌝ }
+{
+    [0; 131072]
+}
+
+// The lines of what was read, on an empty page; the answer is how many bytes they take.
+fn put_answer(
+    r: Answer,
+    wanted: Wanted,
+    page: &mut [u8],
+    declarations: &[u64],
+    fields: &[u64],
+    tags: &[u64],
+    constraints: &[u64],
+    comments: &[u64],
+) -> usize
+    ensures { λ n. ⌜ Lists (linesOf wanted (outcome r (now (declarations .entry)) (now (fields .entry)) (now (tags .entry))
+        (now (constraints .entry)) (now (comments .entry)))) (now (page .entry)) n (now (page .exit)) ⌝ }
+{
+    if r.number != 0 {
+        return put_refusal(page, 0, r.number, r.place, r.reason);
+    }
+    let counts = r.counts;
+    let endianness = r.endianness;
+    match wanted {
+        Wanted::Tables => put_reading(
+            page,
+            0,
+            endianness,
+            counts,
+            declarations,
+            fields,
+            tags,
+            constraints,
+            comments,
+        ),
+        Wanted::Layouts => put_layouts(page, 0, counts[0], declarations, fields),
+    }
 }
 
 // The lines of a source on an empty page; the answer is how many bytes they take.
@@ -35,32 +81,23 @@ pub fn put_source(src: &[u8], wanted: Wanted, page: &mut [u8]) -> usize
         &mut constraints,
         &mut comments,
     );
-    if r.number != 0 {
-        return put_refusal(page, 0, r.number, r.place, r.reason);
-    }
-    let counts = r.counts;
-    let endianness = r.endianness;
-    match wanted {
-        Wanted::Tables => put_reading(
-            page,
-            0,
-            endianness,
-            counts,
-            &declarations,
-            &fields,
-            &tags,
-            &constraints,
-            &comments,
-        ),
-        Wanted::Layouts => put_layouts(page, 0, counts[0], &declarations, &fields),
-    }
+    put_answer(
+        r,
+        wanted,
+        page,
+        &declarations,
+        &fields,
+        &tags,
+        &constraints,
+        &comments,
+    )
 }
 
 // Reads a source from standard input and writes its list to standard output.
 pub fn print_input(wanted: Wanted) {
     let mut source = [0u8; 16385];
     let n = io::read_full(0, &mut source);
-    let mut page = [0u8; 131072];
+    let mut page = empty_page();
     let end = put_source(&source[..n], wanted, &mut page);
     io::write_all(1, &page[..end]);
 }
