@@ -18,8 +18,7 @@ const DAMAGED: usize = 90;
 const LONG: usize = 8;
 
 /// The program crates that have a sample, and whether they print layouts.
-const SAMPLES: [(&str, bool); 3] =
-    [("pdl_tables", false), ("pdl_sample", false), ("pdl_layout", true)];
+const SAMPLES: [(&str, bool); 2] = [("pdl_tables", false), ("pdl_layout", true)];
 
 fn main() -> io::Result<ExitCode> {
     let arguments: Vec<String> = std::env::args().skip(1).collect();

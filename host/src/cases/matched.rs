@@ -1,7 +1,8 @@
 //! Sources that the grammar matches.
 
-/// Whole sources that are about their beginning.
+/// Whole sources: one with every construct, and those that are about their beginning.
 pub const WHOLE: &[&str] = &[
+    include_str!("constructs.pdl"),
     "big_endian_packets ",
     "big_endian_packets\t",
     "little_endian_packets\r",
