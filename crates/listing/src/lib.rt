@@ -1,7 +1,7 @@
 // What the programs list of a source: the rows of its tables, or the layouts of its declarations. A source that is refused has
 // the one line of its refusal in either list.
 ghost use mathlib.Core.Path.{_≡_};
-ghost use lib.ListN.{length};
+ghost use lib.ListN.{length, replicate};
 ghost use Rattle.reading.specs.Outcomes.{outcome};
 ghost use Rattle.listing.specs.Lists.{linesOf, listed, Lists};
 use ast::numbers;
@@ -21,7 +21,7 @@ pub enum Wanted {
 
 // A page that has room for the rows of all tables below.
 pub fn empty_page() -> [u8; 131072]
-    ensures { λ r. ⌜ 131072 ≡ length r ⌝ }
+    ensures { λ r. ⌜ (r ≡ replicate 131072 0) × (131072 ≡ length r) ⌝ }
 {
     [0; 131072]
 }
