@@ -103,7 +103,7 @@ def numbers(token: Token) -> Iterator[Change]:
 
 
 def letters(token: Token) -> Iterator[Change]:
-    """The next byte for a byte; for a text another last byte, and the text without it."""
+    """Another byte for a byte; for a text another last byte, and the text without it."""
     inside = token.text[2:-1]
     if not inside or inside.startswith("\\") or inside[-2:-1] == "\\":
         return
@@ -129,26 +129,27 @@ def parts(source: str, body: List[Token], i: int) -> Iterator[Change]:
     listed = items(body, i)
     spans = [(body[first].start, body[last].end) for first, last in listed]
     texts = [source[start:end] for start, end in spans]
-    if body[i].text == "{" and not all(":" in text or text.isidentifier() for text in texts):
+    named = body[i].text == "{"
+    if named and not all(NAMED.match(text) for text in texts):
         return
     kind = "part" if body[i].text in ("[", "{") else "argument"
     for k in range(len(spans) - 1):
         (start, middle), (other, end) = spans[k], spans[k + 1]
-        yield Change(start, end, exchanged(texts[k], texts[k + 1], source[middle:other]), kind)
+        one, two = exchanged(texts[k], texts[k + 1]) if named else (texts[k + 1], texts[k])
+        yield Change(start, end, one + source[middle:other] + two, kind)
     for k, (start, end) in enumerate(spans):
         for other in {texts[k - 1], texts[(k + 1) % len(texts)]} if kind == "argument" else ():
             yield Change(start, end, other, kind)
 
 
-def exchanged(one: str, other: str, between: str) -> str:
-    """Two parts exchanged; of named parts the values alone."""
-    first, second = NAMED.match(one), NAMED.match(other)
-    if first and second:
-        return first[1] + second[2] + between + second[1] + first[2]
-    return other + between + one
+# A named part: its name, and its value where that is not the name itself.
+NAMED = re.compile(r"(\w+)(?:: (.*))?$")
 
 
-NAMED = re.compile(r"(\w+: )(.*)$")
+def exchanged(one: str, other: str):
+    """Two named parts, each with the value of the other."""
+    (first, value), (second, worth) = NAMED.match(one).groups(), NAMED.match(other).groups()
+    return f"{first}: {worth or second}", f"{second}: {value or first}"
 
 
 def items(body: List[Token], i: int) -> List:
