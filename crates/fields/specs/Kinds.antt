@@ -1,7 +1,7 @@
 -- The rules that a choice names, and what one more try adds to a choice.
 use Prim.Native.Nat.{ℕ}
 use mathlib.Core.List.{List}
-use Rattle.meaning.specs.Peg.{Peg, alt, taken}
+use Rattle.meaning.specs.Peg.{Peg, taken}
 use Rattle.meaning.specs.Forest.{Forest}
 use Rattle.meaning.specs.Pdl.{_∣_, checksum-field, padding-field, size-field, count-field, elementsize-field, body-field, payload-field, fixed-field, reserved-field, array-field, scalar-field, typedef-field, group-field}
 use Rattle.grammar.specs.Drawing.{Draws}
@@ -28,9 +28,9 @@ fieldOf kind.Group = group-field
 abbrev pub descOf : List ℕ → DescMatch → ℕ → Forest
 descOf t d o = drawDesc o t (taken (d .at)) (d .desc)
 
--- where d is what a choice a draws of the text t, r is what `a ∣ g` draws
-pub record OrDesc (d : DescMatch) (g : Peg) (t : List ℕ) (r : DescMatch) : Type 0 where
-  pub or : {a : Peg} → Draws a t (d .at) (λ o. descOf t d o) → Draws (alt a g) t (r .at) (λ o. descOf t r o)
+-- where d is what a choice a draws of the text t, r is what `more a` draws, which is a with more to choose from
+pub record OrDesc (d : DescMatch) (more : Peg → Peg) (t : List ℕ) (r : DescMatch) : Type 0 where
+  pub or : {a : Peg} → Draws a t (d .at) (λ o. descOf t d o) → Draws (more a) t (r .at) (λ o. descOf t r o)
 
 -- the kinds of a description that start with an underscore
 unfoldable pub word-fields : Peg

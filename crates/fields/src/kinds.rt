@@ -4,6 +4,7 @@ ghost use Rattle.meaning.specs.Pdl.{checksum-field, padding-field, size-field, 
 ghost use Rattle.grammar.specs.Drawing.{Draws};
 ghost use Rattle.spans.specs.Drawn.{drawDesc};
 use crate::parts::counted;
+use crate::parts::next_byte;
 use crate::parts::next_number;
 use crate::parts::then_element;
 use crate::parts::then_field_name;
@@ -13,7 +14,6 @@ use crate::parts::then_numbers;
 use crate::parts::then_size;
 use constraints::then_constraint_list;
 use grammar::settle;
-use lexis::blanks::next_literal;
 use lexis::blanks::then_blanks;
 use lexis::texts::literal;
 use lexis::texts::then_literal;
@@ -44,11 +44,11 @@ pub fn checksum_field(s: &[u8]) -> DescMatch
 pub fn padding_field(s: &[u8]) -> DescMatch
     ensures { λ r. ⌜ Draws padding-field (now (s .entry)) (r .at) (λ o. drawDesc o (now (s .entry)) (taken (r .at)) (r .desc)) ⌝ }
 {
-    let size = next_number(s, next_literal(s, literal(s, b"_padding_"), b"["));
+    let size = next_number(s, next_byte(s, literal(s, b"_padding_"), b'['));
     let a = size.at;
     let span = size.span;
     DescMatch {
-        at: next_literal(s, a, b"]"),
+        at: next_byte(s, a, b']'),
         desc: FieldDesc::Padding(span),
     }
 }
@@ -57,11 +57,11 @@ pub fn padding_field(s: &[u8]) -> DescMatch
 pub fn size_field(s: &[u8]) -> DescMatch
     ensures { λ r. ⌜ Draws size-field (now (s .entry)) (r .at) (λ o. drawDesc o (now (s .entry)) (taken (r .at)) (r .desc)) ⌝ }
 {
-    let b = then_blanks(s, next_literal(s, literal(s, b"_size_"), b"("));
+    let b = then_blanks(s, next_byte(s, literal(s, b"_size_"), b'('));
     let id = then_field_name(s, b);
     let a = id.at;
     let token = id.token;
-    let width = next_number(s, next_literal(s, next_literal(s, a, b")"), b":"));
+    let width = next_number(s, next_byte(s, next_byte(s, a, b')'), b':'));
     let at = width.at;
     let span = width.span;
     DescMatch {
@@ -113,9 +113,9 @@ pub fn payload_field(s: &[u8]) -> DescMatch
     ensures { λ r. ⌜ Draws payload-field (now (s .entry)) (r .at) (λ o. drawDesc o (now (s .entry)) (taken (r .at)) (r .desc)) ⌝ }
 {
     let b = then_blanks(s, literal(s, b"_payload_"));
-    let c = then_blanks(s, next_literal(s, then_literal(s, b, b":"), b"["));
+    let c = then_blanks(s, next_byte(s, then_literal(s, b, b":"), b'['));
     let d = then_size_modifier(s, c);
-    let x = next_literal(s, d, b"]");
+    let x = next_byte(s, d, b']');
     let at = settle(s, b, x);
     DescMatch {
         at,
@@ -127,7 +127,7 @@ pub fn payload_field(s: &[u8]) -> DescMatch
 pub fn fixed_field(s: &[u8]) -> DescMatch
     ensures { λ r. ⌜ Draws fixed-field (now (s .entry)) (r .at) (λ o. drawDesc o (now (s .entry)) (taken (r .at)) (r .desc)) ⌝ }
 {
-    let b = then_blanks(s, next_literal(s, literal(s, b"_fixed_"), b"="));
+    let b = then_blanks(s, next_byte(s, literal(s, b"_fixed_"), b'='));
     let x = then_numbers(s, b);
     let at = x.at;
     if let Match::Took(_, _) = at {
@@ -152,7 +152,7 @@ pub fn fixed_field(s: &[u8]) -> DescMatch
 pub fn reserved_field(s: &[u8]) -> DescMatch
     ensures { λ r. ⌜ Draws reserved-field (now (s .entry)) (r .at) (λ o. drawDesc o (now (s .entry)) (taken (r .at)) (r .desc)) ⌝ }
 {
-    let width = next_number(s, next_literal(s, literal(s, b"_reserved_"), b":"));
+    let width = next_number(s, next_byte(s, literal(s, b"_reserved_"), b':'));
     let at = width.at;
     let span = width.span;
     DescMatch {
@@ -167,15 +167,15 @@ pub fn array_field(s: &[u8]) -> DescMatch
 {
     let start = Match::Took(0, 0);
     let a = then_identifier(s, start);
-    let b = then_blanks(s, next_literal(s, a, b":"));
+    let b = then_blanks(s, next_byte(s, a, b':'));
     let kind = then_element(s, b);
     let c = kind.at;
     let element = kind.element;
-    let d = then_blanks(s, next_literal(s, c, b"["));
+    let d = then_blanks(s, next_byte(s, c, b'['));
     let size = then_size(s, d);
     let x = size.at;
     let token = size.token;
-    let at = next_literal(s, settle(s, d, x), b"]");
+    let at = next_byte(s, settle(s, d, x), b']');
     let id = between(start, a);
     let kept = kept_token(x, token);
     DescMatch {
@@ -190,7 +190,7 @@ pub fn scalar_field(s: &[u8]) -> DescMatch
 {
     let start = Match::Took(0, 0);
     let a = then_identifier(s, start);
-    let width = next_number(s, next_literal(s, a, b":"));
+    let width = next_number(s, next_byte(s, a, b':'));
     let at = width.at;
     let span = width.span;
     DescMatch {
@@ -222,7 +222,7 @@ pub fn group_field(s: &[u8]) -> DescMatch
     let b = then_blanks(s, a);
     let c = then_blanks(s, then_literal(s, b, b"{"));
     let list = then_constraint_list(s, c);
-    let braces = next_literal(s, settle(s, c, list), b"}");
+    let braces = next_byte(s, settle(s, c, list), b'}');
     let at = settle(s, b, braces);
     let span = kept_span(list, between(c, list));
     DescMatch {

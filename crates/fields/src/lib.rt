@@ -4,8 +4,8 @@ pub mod parts;
 
 ghost use mathlib.Core.Path.{_≡_};
 ghost use Rattle.meaning.specs.Choice.{pick};
-ghost use Rattle.meaning.specs.Peg.{seq, star, hit, taken};
-ghost use Rattle.meaning.specs.Pdl.{text, _~_, skip, field-desc, field, field-list};
+ghost use Rattle.meaning.specs.Peg.{seq, star, join, hit, taken};
+ghost use Rattle.meaning.specs.Pdl.{text, _~_, _∣_, skip, field-desc, field, field-list};
 ghost use Rattle.grammar.specs.Matching.{Within, Reads, Steps};
 ghost use Rattle.grammar.specs.Drawing.{Draws};
 ghost use Rattle.spans.specs.Drawn.{drawDesc, drawField};
@@ -77,26 +77,76 @@ fn of_kind(s: &[u8], kind: FieldKind) -> DescMatch
     }
 }
 
-// d, or, where it missed, the rule tried with the mark of d.
-fn or_kind(s: &[u8], d: DescMatch, kind: FieldKind) -> DescMatch
-    ensures { λ r. ⌜ OrDesc d (fieldOf kind) (now (s .entry)) r ⌝ }
+// d, with the mark of what was tried before it.
+fn marked(s: &[u8], f: usize, d: DescMatch) -> DescMatch
+    requires { ⌜ Within (d .at) (now s) ⌝ }
+    ensures { λ r. ⌜ (r .at ≡ join 0 f (d .at)) × (r .desc ≡ d .desc) ⌝ }
 {
-    let before = d.at;
-    match before {
-        Match::Took(_, _) => d,
-        Match::Missed(f) => {
-            let e = of_kind(s, kind);
-            let at = e.at;
-            let desc = e.desc;
-            DescMatch {
-                at: joined(s, 0, f, at),
-                desc,
-            }
-        }
+    let at = d.at;
+    let desc = d.desc;
+    DescMatch {
+        at: joined(s, 0, f, at),
+        desc,
     }
 }
 
-// The nine kinds that start with a word in underscores. A text with no underscore in front is none of them.
+// d, or, where it missed, the rule tried with the mark of d.
+fn or_kind(s: &[u8], d: DescMatch, kind: FieldKind) -> DescMatch
+    ensures { λ r. ⌜ OrDesc d (λ a. a ∣ fieldOf kind) (now (s .entry)) r ⌝ }
+{
+    let before = d.at;
+    match before {
+        Match::Took(_, _) => return d,
+        Match::Missed(f) => return marked(s, f, of_kind(s, kind)),
+    }
+}
+
+// d, or the first of two rules that takes; and of four.
+fn or_two(s: &[u8], d: DescMatch, first: FieldKind, second: FieldKind) -> DescMatch
+    ensures { λ r. ⌜ OrDesc d (λ a. a ∣ fieldOf first ∣ fieldOf second) (now (s .entry)) r ⌝ }
+{
+    let e = or_kind(s, d, first);
+    or_kind(s, e, second)
+}
+
+fn or_four(
+    s: &[u8],
+    d: DescMatch,
+    first: FieldKind,
+    second: FieldKind,
+    third: FieldKind,
+    fourth: FieldKind,
+) -> DescMatch
+    ensures { λ r. ⌜ OrDesc d (λ a. a ∣ fieldOf first ∣ fieldOf second ∣ fieldOf third ∣ fieldOf fourth) (now (s .entry)) r ⌝ }
+{
+    let e = or_two(s, d, first, second);
+    or_two(s, e, third, fourth)
+}
+
+// The nine kinds that start with a word in underscores.
+fn word_kind(s: &[u8]) -> DescMatch
+    ensures { λ r. ⌜ Draws word-fields (now (s .entry)) (r .at) (λ o. drawDesc o (now (s .entry)) (taken (r .at)) (r .desc)) ⌝ }
+{
+    let checksum = of_kind(s, FieldKind::Checksum);
+    let sizes = or_four(
+        s,
+        checksum,
+        FieldKind::Padding,
+        FieldKind::Size,
+        FieldKind::Count,
+        FieldKind::ElementSize,
+    );
+    or_four(
+        s,
+        sizes,
+        FieldKind::Body,
+        FieldKind::Payload,
+        FieldKind::Fixed,
+        FieldKind::Reserved,
+    )
+}
+
+// The same, where a text with no underscore in front is told at once: it is none of them.
 fn word_field(s: &[u8]) -> DescMatch
     ensures { λ r. ⌜ Draws word-fields (now (s .entry)) (r .at) (λ o. drawDesc o (now (s .entry)) (taken (r .at)) (r .desc)) ⌝ }
 {
@@ -107,15 +157,7 @@ fn word_field(s: &[u8]) -> DescMatch
             desc: FieldDesc::Body,
         };
     }
-    let checksum = of_kind(s, FieldKind::Checksum);
-    let padding = or_kind(s, checksum, FieldKind::Padding);
-    let size = or_kind(s, padding, FieldKind::Size);
-    let count = or_kind(s, size, FieldKind::Count);
-    let elementsize = or_kind(s, count, FieldKind::ElementSize);
-    let body = or_kind(s, elementsize, FieldKind::Body);
-    let payload = or_kind(s, body, FieldKind::Payload);
-    let fixed = or_kind(s, payload, FieldKind::Fixed);
-    or_kind(s, fixed, FieldKind::Reserved)
+    word_kind(s)
 }
 
 // A field's description.
@@ -123,10 +165,14 @@ pub fn field_desc(s: &[u8]) -> DescMatch
     ensures { λ r. ⌜ Draws field-desc (now (s .entry)) (r .at) (λ o. drawDesc o (now (s .entry)) (taken (r .at)) (r .desc)) ⌝ }
 {
     let words = word_field(s);
-    let array = or_kind(s, words, FieldKind::Array);
-    let scalar = or_kind(s, array, FieldKind::Scalar);
-    let typedef = or_kind(s, scalar, FieldKind::Typedef);
-    or_kind(s, typedef, FieldKind::Group)
+    or_four(
+        s,
+        words,
+        FieldKind::Array,
+        FieldKind::Scalar,
+        FieldKind::Typedef,
+        FieldKind::Group,
+    )
 }
 
 // The condition c of a field, whose match is x.

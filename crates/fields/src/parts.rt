@@ -1,10 +1,11 @@
 // The parts that the kinds of fields share: a name or a number after blanks, a word with a name in parentheses, two tokens
 // with a colon between them, and choices of tokens.
+ghost use mathlib.Core.List.{[], _∷_};
 ghost use Rattle.meaning.specs.Rules.{Rule};
 ghost use Rattle.meaning.specs.Peg.{seq, lit};
 ghost use Rattle.meaning.specs.Pdl.{text, _~_, _∣_, skip, identifier, payload-identifier, body-identifier, integer, size-modifier};
 ghost use Rattle.meaning.specs.Forest.{_⊕_};
-ghost use Rattle.grammar.specs.Matching.{Within};
+ghost use Rattle.grammar.specs.Matching.{Within, Steps};
 ghost use Rattle.grammar.specs.Drawing.{Draws, Follows};
 ghost use Rattle.spans.specs.Drawn.{leafAt, drawToken, onlyName, drawElement};
 use grammar::settle;
@@ -33,6 +34,14 @@ pub struct Pair {
     pub at: Match,
     pub first: Span,
     pub second: Span,
+}
+
+// The byte b after a blank run, where m ends. It is passed by itself, since a text of one byte takes its caller more steps.
+pub fn next_byte(s: &[u8], m: Match, b: u8) -> Match
+    requires { ⌜ Within m (now s) ⌝ }
+    ensures { λ r. ⌜ Steps m (seq skip (lit (b ∷ []))) (now (s .entry)) r ⌝ }
+{
+    next_literal(s, m, &[b])
 }
 
 // A name after a blank run, where m ends.
@@ -66,11 +75,11 @@ pub fn then_labelled(s: &[u8], m: Match, word: &[u8]) -> Leaf
     requires { ⌜ Within m (now s) ⌝ }
     ensures { λ r. ⌜ Follows m (lit (now (word .entry)) ~ text "(" ~ identifier ~ text ")") (now (s .entry)) (r .at) (λ o. leafAt Rule.identifier o (r .span)) ⌝ }
 {
-    let id = next_name(s, next_literal(s, then_literal(s, m, word), b"("));
+    let id = next_name(s, next_byte(s, then_literal(s, m, word), b'('));
     let a = id.at;
     let span = id.span;
     Leaf {
-        at: next_literal(s, a, b")"),
+        at: next_byte(s, a, b')'),
         span,
     }
 }
@@ -82,7 +91,7 @@ pub fn counted(s: &[u8], word: &[u8]) -> Pair
     let id = then_labelled(s, Match::Took(0, 0), word);
     let a = id.at;
     let first = id.span;
-    let width = next_number(s, next_literal(s, a, b":"));
+    let width = next_number(s, next_byte(s, a, b':'));
     let at = width.at;
     let second = width.span;
     Pair { at, first, second }
@@ -94,7 +103,7 @@ pub fn then_names(s: &[u8], m: Match) -> Pair
     ensures { λ r. ⌜ Follows m (identifier ~ text ":" ~ identifier) (now (s .entry)) (r .at) (λ o. leafAt Rule.identifier o (r .first) ⊕ leafAt Rule.identifier o (r .second)) ⌝ }
 {
     let a = then_identifier(s, m);
-    let name = next_name(s, next_literal(s, a, b":"));
+    let name = next_name(s, next_byte(s, a, b':'));
     let at = name.at;
     let second = name.span;
     Pair {
@@ -110,7 +119,7 @@ pub fn then_numbers(s: &[u8], m: Match) -> Pair
     ensures { λ r. ⌜ Follows m (integer ~ text ":" ~ integer) (now (s .entry)) (r .at) (λ o. leafAt Rule.integer o (r .first) ⊕ leafAt Rule.integer o (r .second)) ⌝ }
 {
     let a = then_integer(s, m);
-    let number = next_number(s, next_literal(s, a, b":"));
+    let number = next_number(s, next_byte(s, a, b':'));
     let at = number.at;
     let second = number.span;
     Pair {

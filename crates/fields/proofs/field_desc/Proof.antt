@@ -6,9 +6,7 @@ use Rattle.fields.proofs.field_desc.Tie as tie
 
 returns : tie.Need-returns
 unfolding field-desc word-fields
-returns c = (c .or-kind4 .ensures .or) ((c .before .or-kind3 .ensures .or) ((c .before .before .or-kind2 .ensures .or) ((c .before .before .before .or-kind .ensures .or) (c .before .before .before .before .word-field .ensures))))
+returns c = c .or-four .ensures .or (c .before .word-field .ensures)
 
 pub field-desc-spec : {M : Type 1} → statement M
-field-desc-spec =
-    tie.close
-    (tie.spec (λ c κs. search needs) (λ c κs. search needs) (λ c κs. search needs) (λ c κs. search needs) (λ c κs. search needs) returns)
+field-desc-spec = tie.close (tie.spec (λ c κs. search needs) (λ c κs. search needs) returns)

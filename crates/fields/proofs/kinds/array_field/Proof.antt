@@ -16,20 +16,20 @@ use Rattle.fields.proofs.kinds.array_field.Tie as tie
 returns : tie.Need-returns
 unfolding array-field
 returns c =
-    let x = c .before .before .before .before .before in
+    let x = c .before .before .before .before in
     let d = x .before in
-    let e = d .before .before .before in
+    let e = d .before .before in
     let b = e .before in
-    let a = b .before .before .before in
+    let a = b .before .before in
     noted Rule.array-field refl
     (redrawn
     (whole
     (then
     (then
-    (then (then (then (name (a .then-identifier .ensures)) (mark (b .before .next-literal .ensures))) (then (gap (b .then-blanks .ensures)) (e .then-element .ensures)))
-    (mark (d .before .next-literal2 .ensures)))
-    (then (gap (d .then-blanks2 .ensures)) (maybe (d .then-blanks2 .ensures .fits) (x .then-size .ensures) (c .before .before .before .before .settle .ensures .is))))
-    (mark (c .before .before .next-literal3 .ensures))))
+    (then (then (then (name (a .then-identifier .ensures)) (mark (b .before .next-byte .ensures))) (then (gap (b .then-blanks .ensures)) (e .then-element .ensures)))
+    (mark (d .before .next-byte2 .ensures)))
+    (then (gap (d .then-blanks2 .ensures)) (maybe (d .then-blanks2 .ensures .fits) (x .then-size .ensures) (c .before .before .before .settle .ensures .is))))
+    (mark (c .before .before .next-byte3 .ensures))))
     (λ h o.
     rw (c .before .between .ensures, c .kept-token .ensures)
     (ap (λ (v : Forest). leafAt Rule.identifier o (spanOf (Took 0 0) (a .then-identifier .result)) ⊕ v)
@@ -38,4 +38,4 @@ returns c =
 pub array-field-spec : {M : Type 1} → statement M
 array-field-spec =
     tie.close
-    (tie.spec (λ c κs. search needs) (λ c. search needs) (λ c κs. search needs) (λ c κs. search needs) (λ c κs. search needs) (λ c. search needs) (λ c κs. search needs) (λ c κs. search needs) (λ c κs. search needs) (λ c κs. search needs) (λ c. search needs) (λ c κs. search needs) (λ c κs. search needs) (λ c κs. search needs) returns)
+    (tie.spec (λ c κs. search needs) (λ c κs. search needs) (λ c κs. search needs) (λ c κs. search needs) (λ c κs. search needs) (λ c κs. search needs) (λ c κs. search needs) (λ c κs. search needs) (λ c κs. search needs) (λ c κs. search needs) (λ c κs. search needs) returns)

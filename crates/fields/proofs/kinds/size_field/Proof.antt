@@ -12,20 +12,20 @@ returns : tie.Need-returns
 unfolding size-field
 returns c =
     let w = c .before .before in
-    let n = w .before .before .before .before in
+    let n = w .before .before in
     let b = n .before in
     noted Rule.size-field refl
     (redrawn
     (whole
     (then
     (then
-    (then (then (then (sign (from-start (b .before .before .before .literal .ensures))) (mark (b .before .next-literal .ensures)))
-    (then (gap (b .then-blanks .ensures)) (n .then-field-name .ensures))) (mark (w .before .before .next-literal2 .ensures)))
-    (mark (w .next-literal3 .ensures)))
+    (then (then (then (sign (from-start (b .before .before .literal .ensures))) (mark (b .before .next-byte .ensures)))
+    (then (gap (b .then-blanks .ensures)) (n .then-field-name .ensures))) (mark (w .before .next-byte2 .ensures)))
+    (mark (w .next-byte3 .ensures)))
     (c .before .next-number .ensures)))
     (λ h o. simp nil-right))
 
 pub size-field-spec : {M : Type 1} → statement M
 size-field-spec =
     tie.close
-    (tie.spec (λ c. search needs) (λ c κs. search needs) (λ c. search needs) (λ c κs. search needs) (λ c κs. search needs) (λ c κs. search needs) (λ c. search needs) (λ c κs. search needs) (λ c. search needs) (λ c κs. search needs) (λ c κs. search needs) returns)
+    (tie.spec (λ c. search needs) (λ c κs. search needs) (λ c κs. search needs) (λ c κs. search needs) (λ c κs. search needs) (λ c κs. search needs) (λ c κs. search needs) (λ c κs. search needs) returns)

@@ -4,19 +4,10 @@ use Rattle.spans.specs.Parts.{mark}
 use Rattle.fields.proofs.parts.counted.Statement.{statement}
 use Rattle.fields.proofs.parts.counted.Tie as tie
 
--- src/parts.rt:91:9
-
--- src/parts.rt:94:51
-
--- src/parts.rt:94:32
-
--- src/parts.rt:94:9
-
--- src/parts.rt:88:1
 returns : tie.Need-returns
-returns c = whole (then (then (c .before .before .before .before .before .then-labelled .ensures) (mark (c .before .before .next-literal .ensures))) (c .before .next-number .ensures))
+returns c = whole (then (then (c .before .before .before .before .then-labelled .ensures) (mark (c .before .before .next-byte .ensures))) (c .before .next-number .ensures))
 
 pub counted-spec : {M : Type 1} → statement M
 counted-spec =
     tie.close
-    (tie.spec (λ c κs. search needs) (λ c. search needs) (λ c κs. search needs) (λ c κs. search needs) returns)
+    (tie.spec (λ c κs. search needs) (λ c κs. search needs) (λ c κs. search needs) returns)

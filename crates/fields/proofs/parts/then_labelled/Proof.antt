@@ -4,23 +4,10 @@ use Rattle.spans.specs.Parts.{sign, mark}
 use Rattle.fields.proofs.parts.then_labelled.Statement.{statement}
 use Rattle.fields.proofs.parts.then_labelled.Tie as tie
 
--- src/parts.rt:78:43
-
--- src/parts.rt:78:69
-
--- src/parts.rt:78:27
-
--- src/parts.rt:78:9
-
--- src/parts.rt:82:32
-
--- src/parts.rt:82:13
-
--- src/parts.rt:74:1
 returns : tie.Need-returns
-returns c = then (then (then (sign (c .before .before .before .before .before .before .then-literal .ensures)) (mark (c .before .before .before .before .next-literal .ensures))) (c .before .before .before .next-name .ensures)) (mark (c .next-literal2 .ensures))
+returns c = then (then (then (sign (c .before .before .before .before .then-literal .ensures)) (mark (c .before .before .before .next-byte .ensures))) (c .before .before .next-name .ensures)) (mark (c .next-byte2 .ensures))
 
 pub then-labelled-spec : {M : Type 1} → statement M
 then-labelled-spec =
     tie.close
-    (tie.spec (λ c κs. search needs) (λ c. search needs) (λ c κs. search needs) (λ c κs. search needs) (λ c. search needs) (λ c κs. search needs) returns)
+    (tie.spec (λ c κs. search needs) (λ c κs. search needs) (λ c κs. search needs) (λ c κs. search needs) returns)

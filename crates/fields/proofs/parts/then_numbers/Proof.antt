@@ -4,21 +4,10 @@ use Rattle.spans.specs.Parts.{mark, number}
 use Rattle.fields.proofs.parts.then_numbers.Statement.{statement}
 use Rattle.fields.proofs.parts.then_numbers.Tie as tie
 
--- src/parts.rt:121:9
-
--- src/parts.rt:122:52
-
--- src/parts.rt:122:33
-
--- src/parts.rt:122:9
-
--- src/parts.rt:127:16
-
--- src/parts.rt:117:1
 returns : tie.Need-returns
-returns c = retold (then (then (number (c .before .before .before .before .before .then-integer .ensures)) (mark (c .before .before .before .next-literal .ensures))) (c .before .before .next-number .ensures)) (λ h o. rw ((c .between .ensures)))
+returns c = retold (then (then (number (c .before .before .before .before .then-integer .ensures)) (mark (c .before .before .before .next-byte .ensures))) (c .before .before .next-number .ensures)) (λ h o. rw ((c .between .ensures)))
 
 pub then-numbers-spec : {M : Type 1} → statement M
 then-numbers-spec =
     tie.close
-    (tie.spec (λ c κs. search needs) (λ c. search needs) (λ c κs. search needs) (λ c κs. search needs) (λ c κs. search needs) returns)
+    (tie.spec (λ c κs. search needs) (λ c κs. search needs) (λ c κs. search needs) (λ c κs. search needs) returns)
