@@ -1,6 +1,7 @@
 // Rows of words in lent tables (ast.rs: its records become rows).
 pub mod names;
 pub mod numbers;
+pub mod words;
 
 ghost use mathlib.Core.Path.{_≡_};
 ghost use lib.ListN.{length};

@@ -1,8 +1,9 @@
-// The numbers of 01 that the code shares: row sizes, table numbers, refusal numbers. The meaning has its own (specs/Tables);
-// the lists at the end hold the two together.
+// The numbers of 01 that the code shares: row sizes, table numbers, refusal numbers. The meaning has its own (specs/Tables
+// and Rows); the lists at the end hold the two together.
 ghost use mathlib.Core.Path.{_≡_};
 ghost use mathlib.Core.List.{[], _∷_};
 ghost use Rattle.meaning.specs.Tables.{Table, number, size};
+ghost use Rattle.meaning.specs.Rows.{endianness-size, placed-size, chunk-size};
 
 // Words in a row of each table of a reading.
 pub const DECLARATION_WORDS: usize = 17;
@@ -14,6 +15,9 @@ pub const TAG_WORDS: usize = 12;
 pub const CONSTRAINT_WORDS: usize = 12;
 
 pub const COMMENT_WORDS: usize = 7;
+
+// Words of the endianness with its place.
+pub const ENDIANNESS_WORDS: usize = 7;
 
 // Words in a row of each table of the aligner.
 pub const PLACED_WORDS: usize = 3;
@@ -65,7 +69,8 @@ pub const CONTRADICTORY_STATE: u64 = 18;
 
 // The sizes of rows, table by table, then those of the aligner's tables.
 pub fn row_words() -> [usize; 7]
-    ensures { λ r. ⌜ r ≡ size Table.declarations ∷ size Table.fields ∷ size Table.tags ∷ size Table.constraints ∷ size Table.comments ∷ 3 ∷ 5 ∷ [] ⌝ }
+    ensures { λ r. ⌜ r ≡ size Table.declarations ∷ size Table.fields ∷ size Table.tags
+        ∷ size Table.constraints ∷ size Table.comments ∷ placed-size ∷ chunk-size ∷ [] ⌝ }
 {
     [
         DECLARATION_WORDS,
@@ -76,6 +81,13 @@ pub fn row_words() -> [usize; 7]
         PLACED_WORDS,
         CHUNK_WORDS,
     ]
+}
+
+// The size of the endianness.
+pub fn endianness_words() -> usize
+    ensures { λ r. ⌜ r ≡ endianness-size ⌝ }
+{
+    ENDIANNESS_WORDS
 }
 
 // The tables' numbers, in the same order.

@@ -1,4 +1,4 @@
--- The aligner (01, 'Aligner'): a state, a table of placed rows (3 words) and one of chunk rows (5 words).
+-- The aligner (01, 'Aligner'): a state, a table of placed rows and one of chunk rows.
 use Prim.Native.Nat.{ℕ, _+_, _-_, _%_}
 use mathlib.Core.List.{List, [], _∷_}
 use mathlib.Core.Bool.{Bool, not}
@@ -6,6 +6,7 @@ use lib.Dec.{ltb, leb, eqb}
 use Rattle.meaning.specs.declared.Aligner.{Aligner}
 use Rattle.meaning.specs.Choice.{pick, both}
 use Rattle.meaning.specs.Tables.{put, room}
+use Rattle.meaning.specs.Rows.{placed-size, placed-words, chunk-size, chunk-words}
 
 abbrev pub MAX-CHUNK-WIDTH : ℕ
 MAX-CHUNK-WIDTH = 64
@@ -42,8 +43,8 @@ sound w =
     first
     ((ltb 63 (w .st .width) ⇒ 18)
     ∷ (ltb (w .st .placed) (w .st .start) ⇒ 18)
-    ∷ (ltb (room 3 (w .ps)) (w .st .placed) ⇒ 18)
-    ∷ (ltb (room 5 (w .cs)) (w .st .chunks) ⇒ 18)
+    ∷ (ltb (room placed-size (w .ps)) (w .st .placed) ⇒ 18)
+    ∷ (ltb (room chunk-size (w .cs)) (w .st .chunks) ⇒ 18)
     ∷ (both (not (staged (w .st))) (ltb 0 (w .st .width)) ⇒ 18)
     ∷ [])
 
@@ -52,10 +53,10 @@ unfoldable pub due : ℕ → Bool
 due total = both (ltb 0 total) (eqb (total % 8) 0)
 
 abbrev pub no-placed : World → Bool
-no-placed w = leb (room 3 (w .ps)) (w .st .placed)
+no-placed w = leb (room placed-size (w .ps)) (w .st .placed)
 
 abbrev pub no-chunk : World → Bool
-no-chunk w = leb (room 5 (w .cs)) (w .st .chunks)
+no-chunk w = leb (room chunk-size (w .cs)) (w .st .chunks)
 
 unfoldable pub bits-number : ℕ → World → ℕ
 bits-number width w =
@@ -83,22 +84,22 @@ dyn-number w = first ((ltb 0 (sound w) ⇒ 18) ∷ (staged (w .st) ⇒ 10) ∷ (
 unfoldable pub end-number : World → ℕ
 end-number w = first ((ltb 0 (sound w) ⇒ 18) ∷ (staged (w .st) ⇒ 16) ∷ [])
 
--- placed row: symbol, width, offset. Chunk row: kind (bits 1, bytes 2, dynamic 3), first placed row, count, width, symbol
+-- chunk kinds: bits 1, bytes 2, dynamic 3
 unfoldable pub bits-done : ℕ → ℕ → World → World
 bits-done symbol width w =
     let a = w .st in
     let total = a .width + width in
-    let ps = put 3 (a .placed) (symbol ∷ width ∷ a .width ∷ []) (w .ps) in
+    let ps = put placed-size (a .placed) (placed-words symbol width (a .width)) (w .ps) in
     pick (due total)
     (world (record { placed = a .placed + 1; chunks = a .chunks + 1; start = a .placed + 1; width = 0 }) ps
-    (put 5 (a .chunks) (1 ∷ a .start ∷ (a .placed + 1 - a .start) ∷ total ∷ 0 ∷ []) (w .cs)))
+    (put chunk-size (a .chunks) (chunk-words 1 (a .start) (a .placed + 1 - a .start) total 0) (w .cs)))
     (world (record { placed = a .placed + 1; chunks = a .chunks; start = a .start; width = total }) ps (w .cs))
 
 unfoldable pub chunk-done : ℕ → ℕ → ℕ → World → World
 chunk-done kind symbol width w =
     let a = w .st in
     world (record { placed = a .placed; chunks = a .chunks + 1; start = a .start; width = a .width }) (w .ps)
-    (put 5 (a .chunks) (kind ∷ 0 ∷ 0 ∷ width ∷ symbol ∷ []) (w .cs))
+    (put chunk-size (a .chunks) (chunk-words kind 0 0 width symbol) (w .cs))
 
 -- ---- calls: what each answers and leaves; a refused one leaves all as it came
 pub record Called : Type 0 where

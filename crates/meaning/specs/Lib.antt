@@ -8,6 +8,7 @@ pub mod Peg
 pub mod Forest
 pub mod Pdl
 pub mod Tables
+pub mod Rows
 pub mod Walk
 pub mod Reading
 pub mod Alignment

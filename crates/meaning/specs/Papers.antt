@@ -1,5 +1,5 @@
 -- P1 to P12 of 01, and one reading for the order of bad integers: one table, one statement.
-use Prim.Native.Nat.{ℕ, zero, suc, _+_, _/_, _%_}
+use Prim.Native.Nat.{ℕ, zero, suc, _+_, _*_, _/_, _%_}
 use Prim.Native.String.{String}
 use mathlib.Core.Path.{_≡_, refl}
 use mathlib.Core.List.{List, [], _∷_, _++_, map}
@@ -9,6 +9,7 @@ use Rattle.meaning.specs.Choice.{pick}
 use Rattle.meaning.specs.Quoted.{bytes}
 use Rattle.meaning.specs.Convert.{convert, reasonOf, valueOf}
 use Rattle.meaning.specs.Tables.{Table, Item, rowsOf, flat}
+use Rattle.meaning.specs.Rows.{placed-size, chunk-size}
 use Rattle.meaning.specs.Reading.{Reading, refused, accepted, reading}
 use Rattle.meaning.specs.Alignment.{Call, add-bitfield, align, calls, numbers, World, world, fresh}
 use Rattle.meaning.specs.Feeding.{Layout, layout}
@@ -49,15 +50,21 @@ pub data Case : Type 0 where
   -- a source whose first declaration is laid out over the same; number, place, counts, placed rows, chunk rows
   lays : String → List ℕ → Case
 
+abbrev pub blank-placed : List ℕ
+blank-placed = replicate (3 * placed-size) 0
+
+abbrev pub blank-chunks : List ℕ
+blank-chunks = replicate (2 * chunk-size) 0
+
 abbrev pub desk : World
-desk = world fresh (replicate 9 0) (replicate 10 0)
+desk = world fresh blank-placed blank-chunks
 
 abbrev pub shown : Layout → List ℕ
 shown x = x .number ∷ x .place ∷ x .placed ∷ x .chunks ∷ x .ps ++ x .cs
 
 abbrev pub laidOut : Reading → List ℕ
 laidOut (refused n p r) = n ∷ []
-laidOut (accepted e xs) = shown (layout (flat (rowsOf Table.declarations xs)) (flat (rowsOf Table.fields xs)) 0 (replicate 9 0) (replicate 10 0))
+laidOut (accepted e xs) = shown (layout (flat (rowsOf Table.declarations xs)) (flat (rowsOf Table.fields xs)) 0 blank-placed blank-chunks)
 
 abbrev pub got : Case → List ℕ
 got (reads s w) = printed (reading (bytes s))
@@ -100,9 +107,9 @@ cases =
     ∷ converts "" 1 0
     -- P11
     ∷ aligns (add-bitfield 1 60 ∷ add-bitfield 2 4 ∷ []) (0 ∷ 0 ∷ []) (1 ∷ 0 ∷ 2 ∷ 64 ∷ 0 ∷ 0 ∷ 0 ∷ 0 ∷ 0 ∷ 0 ∷ [])
-    ∷ aligns (add-bitfield 1 60 ∷ add-bitfield 2 5 ∷ []) (0 ∷ 12 ∷ []) (replicate 10 0)
+    ∷ aligns (add-bitfield 1 60 ∷ add-bitfield 2 5 ∷ []) (0 ∷ 12 ∷ []) blank-chunks
     -- P12
-    ∷ aligns (add-bitfield 1 0 ∷ align ∷ []) (0 ∷ 16 ∷ []) (replicate 10 0)
+    ∷ aligns (add-bitfield 1 0 ∷ align ∷ []) (0 ∷ 16 ∷ []) blank-chunks
     -- a field's condition is walked before its description
     ∷ reads "big_endian_packets\npacket A {x: 0X1 if b = 0X2}" "R 4 43 2\n"
     ∷ []

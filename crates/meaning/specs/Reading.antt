@@ -10,6 +10,7 @@ use Rattle.meaning.specs.Peg.{run, hit, taken}
 use Rattle.meaning.specs.Forest.{Forest, Out, missed, took, eval}
 use Rattle.meaning.specs.Pdl.{file, file-start, file-line, file-head}
 use Rattle.meaning.specs.Tables.{Table, Item, count, firstBad, Lent, fill, short, needed, all}
+use Rattle.meaning.specs.Rows.{endianness-size}
 use Rattle.meaning.specs.Walk.{items, endianness}
 
 -- ---- the reading: refusals 1 to 4 in that order, each over the whole source; or what was read
@@ -58,7 +59,7 @@ zeros (suc k) = 0 ∷ zeros k
 
 -- a refused reading reports all counts, the endianness and its place as 0, and leaves the tables as they came
 abbrev pub refusal : ℕ → ℕ → ℕ → Lent → Outcome
-refusal n p r l = record { answer = record { number = n; place = p; reason = r; counts = zeros 5; endianness = zeros 7 }; left = l }
+refusal n p r l = record { answer = record { number = n; place = p; reason = r; counts = zeros 5; endianness = zeros endianness-size }; left = l }
 
 abbrev pub counted : List Table → List Item → List ℕ
 counted [] xs = []

@@ -1,5 +1,5 @@
--- The Rust's walk over the grammar's nodes, parse_constraint to parse_toplevel: what it meets in its order, and its rows word
--- by word (01, 'Rows').
+-- The Rust's walk over the grammar's nodes, parse_constraint to parse_toplevel: what it meets in its order, and the parts of
+-- its rows (01, 'Rows').
 use Prim.Native.Nat.{ℕ, zero, suc, _+_, _-_}
 use mathlib.Core.List.{List, [], _∷_, _++_}
 use mathlib.Core.Bool.{Bool, true, false}
@@ -12,6 +12,7 @@ use Rattle.meaning.specs.Forest.{Forest, nil, tree, clean}
 use Rattle.meaning.specs.Places.{placeAt}
 use Rattle.meaning.specs.Convert.{convert, reasonOf, valueOf}
 use Rattle.meaning.specs.Tables.{Table, Item, int, row, count, firstOf}
+use Rattle.meaning.specs.Rows.{place-words, declaration-words, field-words, tag-words, constraint-words, comment-words, endianness-words}
 
 -- ---- taking children apart, as `expect` and `maybe` do: the next child if it is of the rule, and what is left then
 pub record Part : Type 0 where
@@ -50,11 +51,9 @@ kindIn [] r k = 0
 kindIn (q ∷ qs) r k = pick (is q r) k (kindIn qs r (k + 1))
 
 -- ---- words
--- 1 to 6: start offset, line, column, then end offset, line, column
+-- the place of n bytes from offset o on
 abbrev pub place : List ℕ → ℕ → ℕ → List ℕ
-place src o n =
-    placeAt src o .offset ∷ placeAt src o .line ∷ placeAt src o .column
-    ∷ placeAt src (o + n) .offset ∷ placeAt src (o + n) .line ∷ placeAt src (o + n) .column ∷ []
+place src o n = place-words (placeAt src o) (placeAt src (o + n))
 
 -- a name is offset and length, 0 0 if absent
 abbrev pub name : Part → List ℕ
@@ -92,26 +91,22 @@ value-of w = part Rule.integer (part Rule.identifier w .next)
 unfoldable pub constraint-number : List ℕ → Part → List Item
 constraint-number src p = number src (value-of (p .kids))
 
--- 12 words: kind (integer 1, tag 2); place; id; tag name; value
+-- kinds: integer 1, tag 2
 unfoldable pub constraint-row : List ℕ → Part → List Item
 constraint-row src p =
     row Table.constraints
-    (pick (tag-of (p .kids) .found) 2 1
-    ∷ place src (p .start) (p .len)
-    ++ name (part Rule.identifier (p .kids))
-    ++ name (tag-of (p .kids))
-    ++ value src (value-of (p .kids)) ∷ [])
+    (constraint-words (pick (tag-of (p .kids) .found) 2 1) (place src (p .start) (p .len)) (name (part Rule.identifier (p .kids)))
+    (name (tag-of (p .kids))) (value src (value-of (p .kids))))
     ∷ []
 
 unfoldable pub parse-constraint-list : List ℕ → Forest → List Item
 parse-constraint-list src w = each Rule.constraint (λ p. constraint-number src p ++ constraint-row src p) w
 
--- ---- tags, 12 words: kind (value 1, range 2, other 3, value inside a range 4); place; id; value or range start; range end;
--- number of inner rows
+-- ---- tags; kinds: value 1, range 2, other 3, value inside a range 4
 unfoldable pub tag-row : List ℕ → ℕ → Part → Part → Part → ℕ → List Item
 tag-row src kind p v e inner =
     row Table.tags
-    (kind ∷ place src (p .start) (p .len) ++ name (part Rule.identifier (p .kids)) ++ value src v ∷ value src e ∷ inner ∷ [])
+    (tag-words kind (place src (p .start) (p .len)) (name (part Rule.identifier (p .kids))) (value src v) (value src e) inner)
     ∷ []
 
 -- parse_enum_value: identifier, integer
@@ -198,8 +193,7 @@ abbrev pub described : Forest → Desc
 described nil = desc 0 no no no no no [] nil
 described (tree r s l k more) = describe r k
 
--- a field's items; those so far are xs. 20 words: kind; place; names a, b, c; optional numbers a, b; first and count of a
--- group's constraints; the condition's constraint row plus 1, or 0. The condition's integer comes first, its row last.
+-- a field's items; those so far are xs. The condition's integer comes first, its row last.
 unfoldable pub parse-field : List ℕ → List Item → Part → List Item
 parse-field src xs p =
     let d = described (p .kids) in
@@ -212,12 +206,8 @@ parse-field src xs p =
     condition ++ description
     ++ pick (if .found) (constraint-row src if) []
     ++ row Table.fields
-    (d .kind
-    ∷ place src (p .start) (p .len)
-    ++ name (d .a) ++ name (d .b) ++ name (d .c)
-    ++ optional src (d .na) ++ optional src (d .nb)
-    ++ firstOf before n ∷ n
-    ∷ pick (if .found) (before + n + 1) 0 ∷ [])
+    (field-words (d .kind) (place src (p .start) (p .len)) (name (d .a)) (name (d .b)) (name (d .c)) (optional src (d .na)) (optional src (d .nb))
+    (firstOf before n) n (pick (if .found) (before + n + 1) 0))
     ∷ []
 
 unfoldable pub parse-field-list : List ℕ → List Item → Forest → List Item
@@ -232,8 +222,7 @@ abbrev pub kinds : List Rule
 kinds = Rule.enum-declaration ∷ Rule.packet-declaration ∷ Rule.struct-declaration ∷ Rule.group-declaration ∷ Rule.checksum-declaration ∷ Rule.custom-field-declaration ∷ []
 
 -- a declaration's items; those so far are xs. After the keyword and the id each kind has some of: parent, width, function text,
--- constraints, tags, fields, in this order. 17 words: kind; place; id; parent or function text; optional width; first and count
--- (tag rows of an enum, else field rows); first and count of constraint rows of the header.
+-- constraints, tags, fields, in this order.
 unfoldable pub parse-declaration : List ℕ → List Item → ℕ → Part → List Item
 parse-declaration src xs kind p =
     let id = part Rule.identifier (following (p .kids)) in
@@ -250,13 +239,8 @@ parse-declaration src xs kind p =
     let m = count Table.constraints cs in
     number src width ++ cs ++ ts ++ fs
     ++ row Table.declarations
-    (kind
-    ∷ place src (p .start) (p .len)
-    ++ name id
-    ++ pick (function .found) (unquoted function) (name parent)
-    ++ optional src width
-    ++ firstOf (count own xs) n ∷ n
-    ∷ firstOf (count Table.constraints xs) m ∷ m ∷ [])
+    (declaration-words kind (place src (p .start) (p .len)) (name id) (pick (function .found) (unquoted function) (name parent)) (optional src width)
+    (firstOf (count own xs) n) n (firstOf (count Table.constraints xs) m) m)
     ∷ []
 
 -- the endianness line, test declarations and the end add nothing
@@ -270,9 +254,9 @@ parse-toplevel src xs (tree r s l k more) =
     let ys = parse-kind src xs (kindIn kinds r 1) (node s l k more) in
     ys ++ parse-toplevel src (xs ++ ys) more
 
--- comments, wherever they stand. 7 words: kind (block 1, line 2); place
+-- comments, wherever they stand; kinds: block 1, line 2
 abbrev pub comment-row : List ℕ → ℕ → ℕ → List Item
-comment-row src s l = row Table.comments (pick (prefixb (bytes "/*") (drop s src)) 1 2 ∷ place src s l) ∷ []
+comment-row src s l = row Table.comments (comment-words (pick (prefixb (bytes "/*") (drop s src)) 1 2) (place src s l)) ∷ []
 
 unfoldable pub comments : List ℕ → Forest → List Item
 comments src nil = []
@@ -282,8 +266,8 @@ comments src (tree r s l k more) = pick (is Rule.COMMENT r) (comment-row src s l
 abbrev pub items : List ℕ → Forest → List Item
 items src w = comments src w ++ parse-toplevel src [] (part Rule.file (clean w) .kids)
 
--- 1 little or 2 big, with its place
+-- 1 little or 2 big
 abbrev pub endianness : List ℕ → Forest → List ℕ
 endianness src w =
     let line = part Rule.endianness-declaration (part Rule.file (clean w) .kids) in
-    pick (prefixb (bytes "little_endian_packets") (textOf src line)) 1 2 ∷ place src (line .start) (line .len)
+    endianness-words (pick (prefixb (bytes "little_endian_packets") (textOf src line)) 1 2) (place src (line .start) (line .len))
