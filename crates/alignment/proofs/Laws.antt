@@ -1,13 +1,14 @@
 -- Each answer of the aligner's functions, from the tests that led to it.
 use Prim.Native.Nat.{ℕ, _+_, _-_, _%_, _<_, _≤_}
 use mathlib.Core.Path.{_≡_, refl, sym, _∙_}
-use mathlib.Core.List.{List, [], _∷_}
+use mathlib.Core.List.{List}
 use mathlib.Core.Bool.{Bool, true, false, not}
 use native.Mathlib.Omega.{arith}
 use lib.Dec.{ltb, leb, eqb}
 use borrow.Author.Tests.{lt-ltb, le-ltb, le-leb, lt-leb, ne-eqb, ltb-true, ltb-false, not-true, not-false}
 use Rattle.meaning.specs.declared.Aligner.{Aligner}
 use Rattle.meaning.specs.Tables.{put, room}
+use Rattle.meaning.specs.Rows.{placed-size, chunk-size, placed-words, chunk-words}
 use Rattle.meaning.specs.Alignment.{World, world, settled, staged, sound, due, bits-number, bytes-number, dyn-number, end-number, bits-done, chunk-done, call, add-bitfield, add-bytes, add-dyn-bytes}
 use Rattle.alignment.specs.Answers.{ended}
 use Rattle.alignment.specs.NumberLaws.{sound-says}
@@ -24,16 +25,16 @@ module _ (w : World) where
     sound-start i = simp (le-ltb _ _ h, lt-ltb _ _ i)
 
     module _ (i : w .st .start ≤ w .st .placed) where
-      pub sound-placed : room 3 (w .ps) < w .st .placed → 18 ≡ sound w
+      pub sound-placed : room placed-size (w .ps) < w .st .placed → 18 ≡ sound w
       unfolding sound
       sound-placed j = simp (le-ltb _ _ h, le-ltb _ _ i, lt-ltb _ _ j)
 
-      module _ (j : w .st .placed ≤ room 3 (w .ps)) where
-        pub sound-chunks : room 5 (w .cs) < w .st .chunks → 18 ≡ sound w
+      module _ (j : w .st .placed ≤ room placed-size (w .ps)) where
+        pub sound-chunks : room chunk-size (w .cs) < w .st .chunks → 18 ≡ sound w
         unfolding sound
         sound-chunks k = simp (le-ltb _ _ h, le-ltb _ _ i, le-ltb _ _ j, lt-ltb _ _ k)
 
-        module _ (k : w .st .chunks ≤ room 5 (w .cs)) where
+        module _ (k : w .st .chunks ≤ room chunk-size (w .cs)) where
           pub sound-staged : w .st .start < w .st .placed → 0 ≡ sound w
           unfolding sound
           sound-staged l = simp (le-ltb _ _ h, le-ltb _ _ i, le-ltb _ _ j, le-ltb _ _ k, lt-ltb _ _ l)
@@ -100,16 +101,16 @@ module _ (w : World) (n : ℕ) (e : n ≡ sound w) where
       fits : ltb 64 (w .st .width + v) ≡ false
       fits = le-ltb 64 (w .st .width + v) (omega (arith, narrow))
 
-      pub bits-13 : room 3 (w .ps) ≤ w .st .placed → 13 ≡ bits-number v w
+      pub bits-13 : room placed-size (w .ps) ≤ w .st .placed → 13 ≡ bits-number v w
       unfolding bits-number
       bits-13 j = simp (good, fits, le-leb _ _ j)
 
-      module _ (j : w .st .placed < room 3 (w .ps)) (b : Bool) (d : b ≡ due (w .st .width + v)) where
-        pub bits-13′ : b ≡ true → room 5 (w .cs) ≤ w .st .chunks → 13 ≡ bits-number v w
+      module _ (j : w .st .placed < room placed-size (w .ps)) (b : Bool) (d : b ≡ due (w .st .width + v)) where
+        pub bits-13′ : b ≡ true → room chunk-size (w .cs) ≤ w .st .chunks → 13 ≡ bits-number v w
         unfolding bits-number
         bits-13′ t k = simp (good, fits, lt-leb _ _ j, sym d ∙ t, le-leb _ _ k)
 
-        pub bits-0 : b ≡ true → w .st .chunks < room 5 (w .cs) → 0 ≡ bits-number v w
+        pub bits-0 : b ≡ true → w .st .chunks < room chunk-size (w .cs) → 0 ≡ bits-number v w
         unfolding bits-number
         bits-0 t k = simp (good, fits, lt-leb _ _ j, sym d ∙ t, lt-leb _ _ k)
 
@@ -148,19 +149,19 @@ module _ (w : World) (n : ℕ) (e : n ≡ sound w) where
           unfolding bytes-number
           bytes-12 k = simp (good, none, le-ltb _ _ j, lt-ltb _ _ k)
 
-          pub bytes-13 : v ≤ 64 → room 5 (w .cs) ≤ w .st .chunks → 13 ≡ bytes-number v w
+          pub bytes-13 : v ≤ 64 → room chunk-size (w .cs) ≤ w .st .chunks → 13 ≡ bytes-number v w
           unfolding bytes-number
           bytes-13 k l = simp (good, none, le-ltb _ _ j, le-ltb _ _ k, le-leb _ _ l)
 
-          pub bytes-0 : v ≤ 64 → w .st .chunks < room 5 (w .cs) → 0 ≡ bytes-number v w
+          pub bytes-0 : v ≤ 64 → w .st .chunks < room chunk-size (w .cs) → 0 ≡ bytes-number v w
           unfolding bytes-number
           bytes-0 k l = simp (good, none, le-ltb _ _ j, le-ltb _ _ k, lt-leb _ _ l)
 
-        pub dyn-13 : room 5 (w .cs) ≤ w .st .chunks → 13 ≡ dyn-number w
+        pub dyn-13 : room chunk-size (w .cs) ≤ w .st .chunks → 13 ≡ dyn-number w
         unfolding dyn-number
         dyn-13 l = simp (good, none, le-leb _ _ l)
 
-        pub dyn-0 : w .st .chunks < room 5 (w .cs) → 0 ≡ dyn-number w
+        pub dyn-0 : w .st .chunks < room chunk-size (w .cs) → 0 ≡ dyn-number w
         unfolding dyn-number
         dyn-0 l = simp (good, none, lt-leb _ _ l)
 
@@ -184,8 +185,8 @@ module _ (a : Aligner) (s v : ℕ) (ps cs : List ℕ) (n : ℕ) where
     unfolding call
     bits-refused h = refused n _ _ _ e h
 
-    module _ (h : n ≡ 0) (b : Bool) (d : b ≡ due (a .width + v)) (ps′ : List ℕ) (p : ps′ ≡ put 3 (a .placed) (s ∷ v ∷ a .width ∷ []) ps) where
-      pub bits-chunk : b ≡ true → (cs′ : List ℕ) → cs′ ≡ put 5 (a .chunks) (1 ∷ a .start ∷ (a .placed + 1 - a .start) ∷ (a .width + v) ∷ 0 ∷ []) cs
+    module _ (h : n ≡ 0) (b : Bool) (d : b ≡ due (a .width + v)) (ps′ : List ℕ) (p : ps′ ≡ put placed-size (a .placed) (placed-words s v (a .width)) ps) where
+      pub bits-chunk : b ≡ true → (cs′ : List ℕ) → cs′ ≡ put chunk-size (a .chunks) (chunk-words 1 (a .start) (a .placed + 1 - a .start) (a .width + v) 0) cs
           → record { number = n; left = world (record { placed = a .placed + 1; chunks = a .chunks + 1; start = a .placed + 1; width = 0 }) ps′ cs′ } ≡ call (add-bitfield s v) w
       unfolding call bits-done
       bits-chunk t cs′ q = accepted n _ _ _ _ e h (simp (sym d ∙ t, p, q))
@@ -200,7 +201,7 @@ module _ (a : Aligner) (s v : ℕ) (ps cs : List ℕ) (n : ℕ) where
     unfolding call
     bytes-refused h = refused n _ _ _ e h
 
-    pub bytes-chunk : n ≡ 0 → (cs′ : List ℕ) → cs′ ≡ put 5 (a .chunks) (2 ∷ 0 ∷ 0 ∷ v ∷ s ∷ []) cs
+    pub bytes-chunk : n ≡ 0 → (cs′ : List ℕ) → cs′ ≡ put chunk-size (a .chunks) (chunk-words 2 0 0 v s) cs
         → record { number = n; left = world (record { placed = a .placed; chunks = a .chunks + 1; start = a .start; width = a .width }) ps cs′ } ≡ call (add-bytes s v) w
     unfolding call chunk-done
     bytes-chunk h cs′ q = accepted n _ _ _ _ e h (simp q)
@@ -210,7 +211,7 @@ module _ (a : Aligner) (s : ℕ) (ps cs : List ℕ) (n : ℕ) (e : n ≡ dyn-num
   unfolding call
   dyn-refused h = refused n _ _ _ e h
 
-  pub dyn-chunk : n ≡ 0 → (cs′ : List ℕ) → cs′ ≡ put 5 (a .chunks) (3 ∷ 0 ∷ 0 ∷ 0 ∷ s ∷ []) cs
+  pub dyn-chunk : n ≡ 0 → (cs′ : List ℕ) → cs′ ≡ put chunk-size (a .chunks) (chunk-words 3 0 0 0 s) cs
       → record { number = n; left = world (record { placed = a .placed; chunks = a .chunks + 1; start = a .start; width = a .width }) ps cs′ } ≡ call (add-dyn-bytes s) (world a ps cs)
   unfolding call chunk-done
   dyn-chunk h cs′ q = accepted n _ _ _ _ e h (simp q)

@@ -7,6 +7,7 @@ use lib.Dec.{ltb, leb}
 use borrow.Author.Tests.{le-ltb, ltb-true, ltb-false, leb-false}
 use Rattle.meaning.specs.Choice.{pick, both}
 use Rattle.meaning.specs.Tables.{room}
+use Rattle.meaning.specs.Rows.{placed-size, chunk-size}
 use Rattle.meaning.specs.Alignment.{World, sound, due, bits-number, bytes-number, dyn-number}
 
 pub differ : false ≡ true → ⊥
@@ -21,8 +22,8 @@ past false n x h e = (refl, e)
 pub record Sound (w : World) : Type 0 where
   pub narrow : w .st .width ≤ 63
   pub ordered : w .st .start ≤ w .st .placed
-  pub in-placed : w .st .placed ≤ room 3 (w .ps)
-  pub in-chunks : w .st .chunks ≤ room 5 (w .cs)
+  pub in-placed : w .st .placed ≤ room placed-size (w .ps)
+  pub in-chunks : w .st .chunks ≤ room chunk-size (w .cs)
   pub none : w .st .placed ≤ w .st .start → w .st .width ≡ 0
 
 -- nothing is staged, so there is no width
@@ -65,8 +66,8 @@ unmarred w e = let z : sound w ≤ 0 = ltb-false 0 (sound w) e in sound-says w (
 pub record BitsFit (v : ℕ) (w : World) : Type 0 where
   pub good : Sound w
   pub under : w .st .width + v ≤ 64
-  pub row : w .st .placed < room 3 (w .ps)
-  pub chunk : due (w .st .width + v) ≡ true → w .st .chunks < room 5 (w .cs)
+  pub row : w .st .placed < room placed-size (w .ps)
+  pub chunk : due (w .st .width + v) ≡ true → w .st .chunks < room chunk-size (w .cs)
 
 room-due : (d : Bool) (x c : ℕ) → both d (leb c x) ≡ false → d ≡ true → x < c
 room-due true x c e h = leb-false c x e
@@ -90,7 +91,7 @@ bits-fit v w e =
 pub record ChunkFits (w : World) : Type 0 where
   pub good : Sound w
   pub bare : w .st .placed ≤ w .st .start
-  pub chunk : w .st .chunks < room 5 (w .cs)
+  pub chunk : w .st .chunks < room chunk-size (w .cs)
 
 pub bytes-fit : (v : ℕ) (w : World) → bytes-number v w ≡ 0 → ChunkFits w
 unfolding bytes-number

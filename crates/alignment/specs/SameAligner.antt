@@ -9,6 +9,7 @@ use lib.Dec.{ltb, eqb}
 use borrow.Author.Tests.{lt-ltb, le-ltb, ne-eqb}
 use Rattle.meaning.specs.Choice.{pick, both}
 use Rattle.meaning.specs.Tables.{puts}
+use Rattle.meaning.specs.Rows.{chunk-words}
 use Rattle.meaning.specs.Alignment.{fresh, World, world, settled, sound, due, no-placed, no-chunk, bits-number, bytes-number, dyn-number, end-number, bits-done, chunk-done, Call, call, calls, numbers}
 use Rattle.alignment.specs.NumberLaws.{Sound, sound-is}
 use Rattle.alignment.specs.SoundLaws.{sound-kept, sound-fresh}
@@ -127,14 +128,14 @@ module _ (ps cs : List ℕ) where
         (test refl (not (is-aligned b)) bytes-unaligned
         (test refl (not (is-multiple-of-8 v)) not-divisible
         (test refl (ltb 64 v) bytes-too-wide
-        (full (no-chunk w) (went (push-chunk (bytes s v) b) (told-chunk ps cs b (bytes s v) (2 ∷ 0 ∷ 0 ∷ v ∷ s ∷ []) refl refl))))))
+        (full (no-chunk w) (went (push-chunk (bytes s v) b) (told-chunk ps cs b (bytes s v) (chunk-words 2 0 0 v s) refl refl))))))
 
     dyn-agree : (s : ℕ) → Agrees ps cs b w (chunk-done 3 s 0 w) (dyn-number w) (perform (Call.add-dyn-bytes s) b)
     unfolding dyn-number perform told chunk-done
     dyn-agree s =
         rw (clear w g, some-staged (fields (b .chunks)) (b .staged-fields))
         (test refl (not (is-aligned b)) dyn-unaligned
-        (full (no-chunk w) (went (push-chunk (dyn-bytes s) b) (told-chunk ps cs b (dyn-bytes s) (3 ∷ 0 ∷ 0 ∷ 0 ∷ s ∷ []) refl refl))))
+        (full (no-chunk w) (went (push-chunk (dyn-bytes s) b) (told-chunk ps cs b (dyn-bytes s) (chunk-words 3 0 0 0 s) refl refl))))
 
     end-agree : Agrees ps cs b w w (end-number w) (perform Call.align b)
     unfolding end-number perform told

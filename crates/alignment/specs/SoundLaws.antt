@@ -1,12 +1,13 @@
 -- A call leaves a sound state sound, and the fresh state is sound over any tables.
 use Prim.Native.Nat.{ℕ, zero, suc, _+_, _-_, _≤_}
 use mathlib.Core.Path.{_≡_, refl, sym, _∙_}
-use mathlib.Core.List.{List, [], _∷_}
+use mathlib.Core.List.{List}
 use mathlib.Core.Bool.{Bool, true, false}
 use native.Mathlib.Omega.{arith}
 use lib.Dec.{ltb}
 use borrow.Author.Tests.{ltb-true, ltb-false, ne-eqb}
 use Rattle.meaning.specs.Choice.{pick}
+use Rattle.meaning.specs.Rows.{placed-size, chunk-size, placed-words, chunk-words}
 use Rattle.meaning.specs.Alignment.{fresh, World, world, settled, due, end-number, bits-done, chunk-done, Call, add-bitfield, add-bytes, add-dyn-bytes, align, call}
 use Rattle.ast.specs.RowLaws.{length-put}
 use Rattle.alignment.specs.NumberLaws.{differ, Sound, BitsFit, bits-fit, ChunkFits, bytes-fit, dyn-fit}
@@ -32,8 +33,8 @@ unfolding bits-done
 bits-sound s v w f =
     let a = w .st in
     let total = a .width + v in
-    let e = length-put 3 (a .placed) (s ∷ v ∷ a .width ∷ []) (w .ps) refl in
-    let c = length-put 5 (a .chunks) (1 ∷ a .start ∷ (a .placed + 1 - a .start) ∷ total ∷ 0 ∷ []) (w .cs) refl in
+    let e = length-put placed-size (a .placed) (placed-words s v (a .width)) (w .ps) refl in
+    let c = length-put chunk-size (a .chunks) (chunk-words 1 (a .start) (a .placed + 1 - a .start) total 0) (w .cs) refl in
     either (due total) _ _
     (λ d.
     record {
@@ -55,7 +56,7 @@ bits-sound s v w f =
 chunk-sound : (kind s v : ℕ) (w : World) → ChunkFits w → Sound (chunk-done kind s v w)
 unfolding chunk-done
 chunk-sound kind s v w f =
-    let e = length-put 5 (w .st .chunks) (kind ∷ 0 ∷ 0 ∷ v ∷ s ∷ []) (w .cs) refl in
+    let e = length-put chunk-size (w .st .chunks) (chunk-words kind 0 0 v s) (w .cs) refl in
     record {
       narrow = f .good .narrow;
       ordered = f .good .ordered;

@@ -6,13 +6,14 @@ use native.Mathlib.Omega.{arith}
 use native.Mathlib.Nat.{add-zero, zero-add}
 use lib.ListN.{length, length-append, length-map}
 use Rattle.meaning.specs.Tables.{put, puts}
+use Rattle.meaning.specs.Rows.{placed-size, chunk-size, chunk-words, placed-words}
 use Rattle.meaning.specs.Alignment.{World, world}
 use Rattle.ast.specs.RowLaws.{puts-next}
 use Rattle.alignment.specs.ByteAligner.{Field, Chunk, bitpack, bytes, dyn-bytes, ByteAligner, push-field, push-chunk, commit}
 
 -- a placed row
 abbrev pub words : Field → List ℕ
-words f = f .symbol ∷ f .width ∷ f .offset ∷ []
+words f = placed-words (f .symbol) (f .width) (f .offset)
 
 -- the fields of chunks, in order
 abbrev pub fields : List Chunk → List Field
@@ -24,9 +25,9 @@ fields (dyn-bytes s ∷ cs) = fields cs
 -- the rows of chunks; k fields stand before them
 abbrev pub chunk-rows : ℕ → List Chunk → List (List ℕ)
 chunk-rows k [] = []
-chunk-rows k (bitpack fs v ∷ cs) = (1 ∷ k ∷ length fs ∷ v ∷ 0 ∷ []) ∷ chunk-rows (k + length fs) cs
-chunk-rows k (bytes s v ∷ cs) = (2 ∷ 0 ∷ 0 ∷ v ∷ s ∷ []) ∷ chunk-rows k cs
-chunk-rows k (dyn-bytes s ∷ cs) = (3 ∷ 0 ∷ 0 ∷ 0 ∷ s ∷ []) ∷ chunk-rows k cs
+chunk-rows k (bitpack fs v ∷ cs) = chunk-words 1 k (length fs) v 0 ∷ chunk-rows (k + length fs) cs
+chunk-rows k (bytes s v ∷ cs) = chunk-words 2 0 0 v s ∷ chunk-rows k cs
+chunk-rows k (dyn-bytes s ∷ cs) = chunk-words 3 0 0 0 s ∷ chunk-rows k cs
 
 -- every field: those of the chunks, then the staged ones
 abbrev pub placed-fields : ByteAligner → List Field
@@ -42,8 +43,8 @@ told ps cs b =
       start = length (fields (b .chunks));
       width = b .staged-width;
     })
-    (puts 3 0 (map words (placed-fields b)) ps)
-    (puts 5 0 (chunk-rows 0 (b .chunks)) cs)
+    (puts placed-size 0 (map words (placed-fields b)) ps)
+    (puts chunk-size 0 (chunk-rows 0 (b .chunks)) cs)
 
 -- ---- the rows of one field or chunk more
 length-next : {A : Type 0} (xs : List A) (x : A) → length (xs ++ (x ∷ [])) ≡ length xs + 1
@@ -59,9 +60,9 @@ chunk-rows-append : (k : ℕ) (xs ys : List Chunk) → chunk-rows k (xs ++ ys) �
 chunk-rows-append k [] ys = rw add-zero
 chunk-rows-append k (bitpack fs v ∷ xs) ys =
     let e : k + length fs + length (fields xs) ≡ k + length (fs ++ fields xs) = rw length-append (omega arith) in
-    ap (λ (rs : List (List ℕ)). (1 ∷ k ∷ length fs ∷ v ∷ 0 ∷ []) ∷ rs) (rw (← e) (chunk-rows-append (k + length fs) xs ys))
-chunk-rows-append k (bytes s v ∷ xs) ys = ap (λ (rs : List (List ℕ)). (2 ∷ 0 ∷ 0 ∷ v ∷ s ∷ []) ∷ rs) (chunk-rows-append k xs ys)
-chunk-rows-append k (dyn-bytes s ∷ xs) ys = ap (λ (rs : List (List ℕ)). (3 ∷ 0 ∷ 0 ∷ 0 ∷ s ∷ []) ∷ rs) (chunk-rows-append k xs ys)
+    ap (λ (rs : List (List ℕ)). chunk-words 1 k (length fs) v 0 ∷ rs) (rw (← e) (chunk-rows-append (k + length fs) xs ys))
+chunk-rows-append k (bytes s v ∷ xs) ys = ap (λ (rs : List (List ℕ)). chunk-words 2 0 0 v s ∷ rs) (chunk-rows-append k xs ys)
+chunk-rows-append k (dyn-bytes s ∷ xs) ys = ap (λ (rs : List (List ℕ)). chunk-words 3 0 0 0 s ∷ rs) (chunk-rows-append k xs ys)
 
 pub chunk-rows-length : (k : ℕ) (xs : List Chunk) → length (chunk-rows k xs) ≡ length xs
 chunk-rows-length k [] = refl
@@ -69,16 +70,17 @@ chunk-rows-length k (bitpack fs v ∷ xs) = ap suc (chunk-rows-length (k + lengt
 chunk-rows-length k (bytes s v ∷ xs) = ap suc (chunk-rows-length k xs)
 chunk-rows-length k (dyn-bytes s ∷ xs) = ap suc (chunk-rows-length k xs)
 
-next-field : (fs : List Field) (f : Field) (t : List ℕ) → puts 3 0 (map words (fs ++ (f ∷ []))) t ≡ put 3 (length fs) (words f) (puts 3 0 (map words fs) t)
+next-field : (fs : List Field) (f : Field) (t : List ℕ) → puts placed-size 0 (map words (fs ++ (f ∷ []))) t
+    ≡ put placed-size (length fs) (words f) (puts placed-size 0 (map words fs) t)
 next-field fs f t =
     rw (map-append words fs (f ∷ []))
-    (puts-next 3 (map words fs) (words f) t ∙ rw (length-map fs words))
+    (puts-next placed-size (map words fs) (words f) t ∙ rw (length-map fs words))
 
 next-chunk : (xs : List Chunk) (c : Chunk) (r t : List ℕ) → chunk-rows (length (fields xs)) (c ∷ []) ≡ r ∷ []
-    → puts 5 0 (chunk-rows 0 (xs ++ (c ∷ []))) t ≡ put 5 (length xs) r (puts 5 0 (chunk-rows 0 xs) t)
+    → puts chunk-size 0 (chunk-rows 0 (xs ++ (c ∷ []))) t ≡ put chunk-size (length xs) r (puts chunk-size 0 (chunk-rows 0 xs) t)
 next-chunk xs c r t e =
     rw (chunk-rows-append 0 xs (c ∷ []), zero-add, e)
-    (puts-next 5 (chunk-rows 0 xs) r t ∙ rw (chunk-rows-length 0 xs))
+    (puts-next chunk-size (chunk-rows 0 xs) r t ∙ rw (chunk-rows-length 0 xs))
 
 committed : (xs : List Chunk) (fs : List Field) (v : ℕ) → fields (xs ++ (bitpack fs v ∷ [])) ≡ fields xs ++ fs
 committed xs fs v = fields-append xs (bitpack fs v ∷ []) ∙ rw (append-nil fs)
@@ -95,21 +97,24 @@ module _ (ps cs : List ℕ) (b : ByteAligner) where
   first = length (fields (b .chunks))
 
   abbrev ps′ : List ℕ
-  ps′ = puts 3 0 (map words (placed-fields b)) ps
+  ps′ = puts placed-size 0 (map words (placed-fields b)) ps
 
   abbrev cs′ : List ℕ
-  cs′ = puts 5 0 (chunk-rows 0 (b .chunks)) cs
+  cs′ = puts chunk-size 0 (chunk-rows 0 (b .chunks)) cs
 
   module _ (s v : ℕ) where
     abbrev field : Field
     field = record { symbol = s; width = v; offset = b .staged-width }
 
-    pub told-field : world (record { placed = n + 1; chunks = m; start = first; width = b .staged-width + v }) (put 3 n (words field) ps′) cs′ ≡ told ps cs (push-field s v b)
+    pub told-field : world (record { placed = n + 1; chunks = m; start = first; width = b .staged-width + v }) (put placed-size n (words field) ps′) cs′
+        ≡ told ps cs (push-field s v b)
     unfolding told
     told-field =
         rw (← append-assoc (fields (b .chunks)) (b .staged-fields) (field ∷ []), length-next (placed-fields b) field, next-field (placed-fields b) field ps)
 
-    pub told-commit : world (record { placed = n + 1; chunks = m + 1; start = n + 1; width = 0 }) (put 3 n (words field) ps′) (put 5 m (1 ∷ first ∷ (n + 1 - first) ∷ (b .staged-width + v) ∷ 0 ∷ []) cs′) ≡ told ps cs (commit (push-field s v b))
+    pub told-commit : world (record { placed = n + 1; chunks = m + 1; start = n + 1; width = 0 })
+        (put placed-size n (words field) ps′) (put chunk-size m (chunk-words 1 first (n + 1 - first) (b .staged-width + v) 0) cs′)
+        ≡ told ps cs (commit (push-field s v b))
     unfolding told
     told-commit =
         let fs = b .staged-fields ++ (field ∷ []) in
@@ -121,12 +126,12 @@ module _ (ps cs : List ℕ) (b : ByteAligner) where
           length-next (placed-fields b) field,
           length-next (b .chunks) (bitpack fs (b .staged-width + v)),
           next-field (placed-fields b) field ps,
-          next-chunk (b .chunks) (bitpack fs (b .staged-width + v)) (1 ∷ first ∷ length fs ∷ (b .staged-width + v) ∷ 0 ∷ []) cs refl,
+          next-chunk (b .chunks) (bitpack fs (b .staged-width + v)) (chunk-words 1 first (length fs) (b .staged-width + v) 0) cs refl,
           e,
         )
 
   pub told-chunk : (c : Chunk) (r : List ℕ) → fields (c ∷ []) ≡ [] → chunk-rows first (c ∷ []) ≡ r ∷ []
-      → world (record { placed = n; chunks = m + 1; start = first; width = b .staged-width }) ps′ (put 5 m r cs′) ≡ told ps cs (push-chunk c b)
+      → world (record { placed = n; chunks = m + 1; start = first; width = b .staged-width }) ps′ (put chunk-size m r cs′) ≡ told ps cs (push-chunk c b)
   unfolding told
   told-chunk c r h e =
       let g : fields (b .chunks ++ (c ∷ [])) ≡ fields (b .chunks) = fields-append (b .chunks) (c ∷ []) ∙ rw h (append-nil (fields (b .chunks))) in

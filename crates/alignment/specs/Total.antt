@@ -10,6 +10,7 @@ use lib.Dec.{eqb}
 use borrow.Author.Tests.{ne-eqb}
 use Rattle.meaning.specs.Choice.{pick}
 use Rattle.meaning.specs.Tables.{put, room}
+use Rattle.meaning.specs.Rows.{chunk-size, chunk-words, chunk-kind, chunk-width}
 use Rattle.meaning.specs.Alignment.{fresh, World, world, settled, due, bits-number, end-number, bits-done, chunk-done, Call, add-bitfield, add-bytes, add-dyn-bytes, align, call, calls}
 use Rattle.ast.specs.RowLaws.{put-word, put-word-before}
 use Rattle.alignment.specs.NumberLaws.{bits-fit, bytes-fit, dyn-fit}
@@ -26,25 +27,34 @@ unfoldable pub taken : List Call → World → ℕ
 taken [] w = 0
 taken (k ∷ ks) w = pick (eqb (call k w .number) 0) (bits-of k) 0 + taken ks (call k w .left)
 
--- the widths of kind 1 among the first n chunk rows: word 0 is the kind, word 3 the width
+-- the widths of kind 1 among the first n chunk rows
 unfoldable pub chunk-bits : ℕ → List ℕ → ℕ
 chunk-bits zero cs = 0
-chunk-bits (suc n) cs = chunk-bits n cs + pick (eqb (getD cs (n * 5 + 0) 0) 1) (getD cs (n * 5 + 3) 0) 0
+chunk-bits (suc n) cs = chunk-bits n cs + pick (eqb (getD cs (n * chunk-size + chunk-kind) 0) 1) (getD cs (n * chunk-size + chunk-width) 0) 0
 
 abbrev pub held : World → ℕ
 held w = chunk-bits (w .st .chunks) (w .cs) + w .st .width
 
 -- one more row leaves those before it
-module _ (cs : List ℕ) (k : ℕ) (row : List ℕ) (e : length row ≡ 5) where
-  keeps : (n : ℕ) → n ≤ k → chunk-bits n (put 5 k row cs) ≡ chunk-bits n cs
+module _ (cs : List ℕ) (k : ℕ) (row : List ℕ) (e : length row ≡ chunk-size) where
+  keeps : (n : ℕ) → n ≤ k → chunk-bits n (put chunk-size k row cs) ≡ chunk-bits n cs
   unfolding chunk-bits
   keeps zero h = refl
   keeps (suc n) h =
-      simp (keeps n (omega arith), put-word-before 5 k row cs (n * 5 + 0) e (omega arith), put-word-before 5 k row cs (n * 5 + 3) e (omega arith))
+      simp (
+        keeps n (omega arith),
+        put-word-before chunk-size k row cs (n * chunk-size + chunk-kind) e (omega arith),
+        put-word-before chunk-size k row cs (n * chunk-size + chunk-width) e (omega arith),
+      )
 
-  adds : k * 5 + 5 ≤ length cs → chunk-bits (k + 1) (put 5 k row cs) ≡ chunk-bits k cs + pick (eqb (getD row 0 0) 1) (getD row 3 0) 0
+  adds : k * chunk-size + chunk-size ≤ length cs → chunk-bits (k + 1) (put chunk-size k row cs)
+      ≡ chunk-bits k cs + pick (eqb (getD row chunk-kind 0) 1) (getD row chunk-width 0) 0
   unfolding chunk-bits
-  adds h = rw add-one (simp (keeps k (omega arith), put-word 5 k row cs 0 e h (omega arith), put-word 5 k row cs 3 e h (omega arith)))
+  adds h = rw add-one (simp (
+    keeps k (omega arith),
+    put-word chunk-size k row cs chunk-kind e h (omega arith),
+    put-word chunk-size k row cs chunk-width e h (omega arith),
+  ))
 
 -- a call that adds v where it is accepted
 settles : (n v : ℕ) (done same : World) → (n ≡ 0 → held done ≡ held same + v) → held (settled n done same .left) ≡ held same + pick (eqb n 0) v 0
@@ -60,12 +70,16 @@ unfolding bits-done
 bits-held s v w e =
     let f = bits-fit v w e in
     either (due (w .st .width + v)) _ _ _
-    (λ d. omega (arith, adds (w .cs) (w .st .chunks) (1 ∷ w .st .start ∷ (w .st .placed + 1 - w .st .start) ∷ (w .st .width + v) ∷ 0 ∷ []) refl (omega (arith, f .chunk d))))
+    (λ d. omega (
+      arith,
+      adds (w .cs) (w .st .chunks)
+          (chunk-words 1 (w .st .start) (w .st .placed + 1 - w .st .start) (w .st .width + v) 0) refl (omega (arith, f .chunk d)),
+    ))
     (omega arith)
 
-chunk-held : (kind s v : ℕ) (w : World) → eqb kind 1 ≡ false → w .st .chunks < room 5 (w .cs) → held (chunk-done kind s v w) ≡ held w + 0
+chunk-held : (kind s v : ℕ) (w : World) → eqb kind 1 ≡ false → w .st .chunks < room chunk-size (w .cs) → held (chunk-done kind s v w) ≡ held w + 0
 unfolding chunk-done
-chunk-held kind s v w e h = omega (arith, rw e at (adds (w .cs) (w .st .chunks) (kind ∷ 0 ∷ 0 ∷ v ∷ s ∷ []) refl (omega arith)))
+chunk-held kind s v w e h = omega (arith, rw e at (adds (w .cs) (w .st .chunks) (chunk-words kind 0 0 v s) refl (omega arith)))
 
 step : (k : Call) (w : World) → held (call k w .left) ≡ held w + pick (eqb (call k w .number) 0) (bits-of k) 0
 unfolding call

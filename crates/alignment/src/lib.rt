@@ -2,6 +2,7 @@
 ghost use mathlib.Core.Path.{_≡_};
 ghost use mathlib.Core.Bool.{not};
 ghost use Rattle.meaning.specs.Tables.{put};
+ghost use Rattle.meaning.specs.Rows.{placed-size, chunk-size};
 ghost use Rattle.meaning.specs.Alignment.{world, staged, sound, due, bits-number, bytes-number, dyn-number, end-number, call, add-bitfield, add-bytes, add-dyn-bytes};
 ghost use Rattle.alignment.specs.Answers.{called, ended};
 use ast::numbers;
@@ -135,14 +136,14 @@ fn end_number(a: Aligner, placed: &[u64], chunks: &[u64]) -> u64
 
 // A placed row into its table.
 fn put_placed(t: &mut [u64], k: usize, row: [u64; numbers::PLACED_WORDS])
-    ensures { λ _. ⌜ now (t .exit) ≡ put 3 k row (now (t .entry)) ⌝ }
+    ensures { λ _. ⌜ now (t .exit) ≡ put placed-size k row (now (t .entry)) ⌝ }
 {
     ast::put_row(t, k, &row);
 }
 
 // A chunk row into its table.
 fn put_chunk(t: &mut [u64], k: usize, row: [u64; numbers::CHUNK_WORDS])
-    ensures { λ _. ⌜ now (t .exit) ≡ put 5 k row (now (t .entry)) ⌝ }
+    ensures { λ _. ⌜ now (t .exit) ≡ put chunk-size k row (now (t .entry)) ⌝ }
 {
     ast::put_row(t, k, &row);
 }

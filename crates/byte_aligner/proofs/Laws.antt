@@ -1,7 +1,7 @@
 -- A call over one chunk row tells the call over a table of so many records.
 use Prim.Native.Nat.{ℕ, _+_, _-_, _<_, _≤_}
 use mathlib.Core.Path.{_≡_, refl, sym, ap, subst, _∙_}
-use mathlib.Core.List.{List, [], _∷_}
+use mathlib.Core.List.{List}
 use mathlib.Core.Bool.{Bool, true, false}
 use native.Mathlib.Omega.{arith}
 use lib.ListN.{length, set}
@@ -10,6 +10,7 @@ use borrow.Author.Tests.{lt-ltb, le-ltb, le-leb, lt-leb, eq-eqb, ne-eqb, ltb-tru
 use Rattle.meaning.specs.declared.Aligner.{Aligner}
 use Rattle.meaning.specs.Choice.{pick, both}
 use Rattle.meaning.specs.Tables.{put, room}
+use Rattle.meaning.specs.Rows.{placed-size, chunk-size, placed-words, chunk-words}
 use Rattle.meaning.specs.Alignment as meaning
 use Rattle.meaning.specs.Alignment.{World, world, sound, due, bits-number, bytes-number, dyn-number, end-number, bits-done, chunk-done, call, Call, add-bitfield, add-bytes, add-dyn-bytes}
 use Rattle.alignment.specs.NumberLaws.{differ, bits-fit, bytes-fit, dyn-fit}
@@ -18,7 +19,7 @@ use Rattle.alignment.specs.declared.Ended.{Ended}
 use Rattle.alignment.specs.Answers.{called, ended}
 use Rattle.byte_aligner.specs.declared.Chunk.{Chunk}
 use Rattle.byte_aligner.specs.declared.Plan.{Plan}
-use Rattle.byte_aligner.specs.Records.{flat, Held, held, words, bits-to, chunk-to, Recorded, recorded, call-to}
+use Rattle.byte_aligner.specs.Records.{row, flat, Held, held, words, bits-to, chunk-to, Recorded, recorded, call-to}
 use Rattle.byte_aligner.specs.Plans.{near, with-chunks, near-state, blank, plan, plan-of, put-if, given, Plans, Ends}
 use Rattle.byte_aligner.specs.SameRecords.{flat-rows}
 
@@ -74,17 +75,17 @@ module _ (a : Aligner) (n : ℕ) (r : Called) (row : List ℕ) where
   plan-full h = simp (le-ltb _ _ h)
 
 -- ---- the numbers
-module _ (a : Aligner) (ps cs : List ℕ) (n : ℕ) (e : room 5 cs ≡ n) where
+module _ (a : Aligner) (ps cs : List ℕ) (n : ℕ) (e : room chunk-size cs ≡ n) where
   abbrev one : World
   one = world (near-state a n) ps blank
 
   abbrev all : World
   all = world a ps cs
 
-  over : ltb (room 5 blank) (near (a .chunks) n) ≡ ltb (room 5 cs) (a .chunks)
+  over : ltb (room chunk-size blank) (near (a .chunks) n) ≡ ltb (room chunk-size cs) (a .chunks)
   over = near-over (a .chunks) n ∙ ap (λ (z : ℕ). ltb z (a .chunks)) (sym e)
 
-  full : leb (room 5 blank) (near (a .chunks) n) ≡ leb (room 5 cs) (a .chunks)
+  full : leb (room chunk-size blank) (near (a .chunks) n) ≡ leb (room chunk-size cs) (a .chunks)
   full = near-full (a .chunks) n ∙ ap (λ (z : ℕ). leb z (a .chunks)) (sym e)
 
   same-sound : sound one ≡ sound all
@@ -121,7 +122,7 @@ module _ (a : Aligner) (ps : List ℕ) (rs : List Chunk) (n : ℕ) (e : length r
   abbrev after : meaning.Called → Recorded
   after o = given (plan-of a n (record { number = o .number; state = o .left .st }) (o .left .cs)) (o .left .ps) rs
 
-  rows : room 5 (flat rs) ≡ n
+  rows : room chunk-size (flat rs) ≡ n
   rows = flat-rows rs ∙ e
 
   -- the row was not taken
@@ -131,28 +132,28 @@ module _ (a : Aligner) (ps : List ℕ) (rs : List Chunk) (n : ℕ) (e : length r
 
   -- it was
   took-first : ltb k n ≡ true → (m : ℕ) (b : Aligner) (ps′ : List ℕ) (c : Chunk)
-      → after (record { number = m; left = world (with-chunks b 1) ps′ (put 5 0 (c .kind ∷ c .first ∷ c .count ∷ c .width ∷ c .symbol ∷ []) blank) })
+      → after (record { number = m; left = world (with-chunks b 1) ps′ (put chunk-size 0 (row c) blank) })
       ≡ recorded m (with-chunks b (k + 1)) ps′ (set rs k c)
   unfolding plan-of put
   took-first t m b ps′ c = simp t
 
   took : k < n → (m : ℕ) (b : Aligner) (ps′ : List ℕ) (c : Chunk)
-      → after (record { number = m; left = world (with-chunks b (near k n + 1)) ps′ (put 5 (near k n) (c .kind ∷ c .first ∷ c .count ∷ c .width ∷ c .symbol ∷ []) blank) })
+      → after (record { number = m; left = world (with-chunks b (near k n + 1)) ps′ (put chunk-size (near k n) (row c) blank) })
       ≡ recorded m (with-chunks b (k + 1)) ps′ (set rs k c)
   took l m b ps′ c =
       let t : ltb k n ≡ true = lt-ltb k n l in
       subst
-      (λ (x : ℕ). after (record { number = m; left = world (with-chunks b (x + 1)) ps′ (put 5 x (c .kind ∷ c .first ∷ c .count ∷ c .width ∷ c .symbol ∷ []) blank) })
+      (λ (x : ℕ). after (record { number = m; left = world (with-chunks b (x + 1)) ps′ (put chunk-size x (row c) blank) })
       ≡ recorded m (with-chunks b (k + 1)) ps′ (set rs k c))
       (sym (ap (λ (z : Bool). pick z 0 (pick (eqb k n) 1 2)) t))
       (took-first t m b ps′ c)
 
-  fewer : k < room 5 (flat rs) → k < n
+  fewer : k < room chunk-size (flat rs) → k < n
   fewer l = subst (λ (z : ℕ). k < z) rows l
 
   module _ (s v : ℕ) where
     abbrev laid : List ℕ
-    laid = put 3 (a .placed) (s ∷ v ∷ a .width ∷ []) ps
+    laid = put placed-size (a .placed) (placed-words s v (a .width)) ps
 
     abbrev packed : Chunk
     packed = record { kind = 1; first = a .start; count = a .placed + 1 - a .start; width = a .width + v; symbol = 0 }
@@ -164,7 +165,12 @@ module _ (a : Aligner) (ps : List ℕ) (rs : List Chunk) (n : ℕ) (e : length r
     wider c = record { placed = a .placed + 1; chunks = c; start = a .start; width = a .width + v }
 
     bits-cases : (m : ℕ) (t d : Bool) → (t ≡ true → d ≡ true → k < n)
-        → after (record { number = m; left = pick t (pick d (world (cleared (near k n + 1)) laid (put 5 (near k n) (1 ∷ a .start ∷ (a .placed + 1 - a .start) ∷ (a .width + v) ∷ 0 ∷ []) blank)) (world (wider (near k n)) laid blank)) w })
+        → after (record {
+          number = m;
+          left = pick t (pick d (world (cleared (near k n + 1)) laid
+              (put chunk-size (near k n) (chunk-words 1 (a .start) (a .placed + 1 - a .start) (a .width + v) 0) blank))
+              (world (wider (near k n)) laid blank)) w;
+        })
         ≡ record { number = m; left = pick t (pick d (held (cleared (k + 1)) laid (set rs k packed)) (held (wider k) laid rs)) h }
     bits-cases m true true f = took (f refl refl) m (cleared 0) laid packed
     bits-cases m true false f = kept m (wider 0) laid blank
@@ -181,7 +187,11 @@ module _ (a : Aligner) (ps : List ℕ) (rs : List Chunk) (n : ℕ) (e : length r
   chunk-after m kind s v f = cases (eqb m 0) (λ t. f (eqb-true _ _ t))
     where
       cases : (t : Bool) → (t ≡ true → k < n)
-          → after (record { number = m; left = pick t (world (with-chunks a (near k n + 1)) ps (put 5 (near k n) (kind ∷ 0 ∷ 0 ∷ v ∷ s ∷ []) blank)) w })
+          → after (record {
+            number = m;
+            left = pick t (world (with-chunks a (near k n + 1)) ps
+                (put chunk-size (near k n) (chunk-words kind 0 0 v s) blank)) w;
+          })
           ≡ record { number = m; left = pick t (held (with-chunks a (k + 1)) ps (set rs k (record { kind = kind; first = 0; count = 0; width = v; symbol = s }))) h }
       cases true g = took (g refl) m a ps (record { kind = kind; first = 0; count = 0; width = v; symbol = s })
       cases false g = kept m a ps blank
@@ -227,7 +237,7 @@ module _ (a : Aligner) (ps : List ℕ) (n : ℕ) (b : Aligner) (d : b ≡ near-s
 
 -- ---- the end
 module _ (a : Aligner) (ps : List ℕ) (n : ℕ) (b : Aligner) (d : b ≡ near-state a n) (r : Ended) (q : r ≡ ended b ps blank) where
-  number-is : (cs : List ℕ) → room 5 cs ≡ n → r .number ≡ end-number (world a ps cs)
+  number-is : (cs : List ℕ) → room chunk-size cs ≡ n → r .number ≡ end-number (world a ps cs)
   unfolding ended
   number-is cs e = ap (λ (z : Ended). z .number) q ∙ rw d (same-end a ps cs n e)
 

@@ -1,13 +1,14 @@
 -- Plans: a call over one chunk row by itself, and what it says of a call over a table of so many records.
 use Prim.Native.Nat.{ℕ, _+_, _<_}
 use mathlib.Core.Path.{_≡_}
-use mathlib.Core.List.{List, [], _∷_}
+use mathlib.Core.List.{List}
 use mathlib.Core.Bool.{Bool, true, false}
 use lib.ListN.{length, set, getD}
 use lib.Dec.{ltb, eqb}
 use Rattle.meaning.specs.declared.Aligner.{Aligner}
 use Rattle.meaning.specs.Choice.{pick, both}
 use Rattle.meaning.specs.Tables.{room}
+use Rattle.meaning.specs.Rows.{chunk-size, chunk-kind, chunk-first, chunk-count, chunk-width, chunk-symbol, chunk-words}
 use Rattle.meaning.specs.Alignment.{Call}
 use Rattle.alignment.specs.declared.Called.{Called}
 use Rattle.alignment.specs.declared.Ended.{Ended}
@@ -27,10 +28,17 @@ abbrev pub near-state : Aligner → ℕ → Aligner
 near-state a rows = with-chunks a (near (a .chunks) rows)
 
 abbrev pub blank : List ℕ
-blank = 0 ∷ 0 ∷ 0 ∷ 0 ∷ 0 ∷ []
+blank = chunk-words 0 0 0 0 0
 
 abbrev pub chunk-of : List ℕ → Chunk
-chunk-of ws = record { kind = getD ws 0 0; first = getD ws 1 0; count = getD ws 2 0; width = getD ws 3 0; symbol = getD ws 4 0 }
+chunk-of ws =
+    record {
+      kind = getD ws chunk-kind 0;
+      first = getD ws chunk-first 0;
+      count = getD ws chunk-count 0;
+      width = getD ws chunk-width 0;
+      symbol = getD ws chunk-symbol 0;
+    }
 
 abbrev pub plan : Bool → ℕ → Aligner → Called → List ℕ → Plan
 plan due k a r row = record { number = r .number; state = with-chunks (r .state) k; due = due; at = a .chunks; chunk = chunk-of row }
@@ -57,4 +65,4 @@ pub record Plans (c : Call) (a : Aligner) (ps : List ℕ) (rows : ℕ) (p : Plan
 
 -- the end, over any words of so many rows
 pub record Ends (a : Aligner) (ps : List ℕ) (rows : ℕ) (r : Ended) : Type 0 where
-  pub is : (cs : List ℕ) → room 5 cs ≡ rows → r ≡ ended a ps cs
+  pub is : (cs : List ℕ) → room chunk-size cs ≡ rows → r ≡ ended a ps cs

@@ -1,20 +1,24 @@
 -- The aligner over a lent table of chunk records: it judges as over their words, and stores one record for a chunk row.
 use Prim.Native.Nat.{ℕ, _+_, _-_}
-use mathlib.Core.List.{List, [], _∷_}
+use mathlib.Core.List.{List, [], _∷_, _++_}
 use lib.ListN.{set}
 use lib.Dec.{eqb}
 use Rattle.meaning.specs.declared.Aligner.{Aligner}
 use Rattle.meaning.specs.Choice.{pick}
 use Rattle.meaning.specs.Tables.{put}
+use Rattle.meaning.specs.Rows.{placed-size, chunk-words, placed-words}
 use Rattle.meaning.specs.Alignment.{World, world, due, bits-number, bytes-number, dyn-number, end-number, Call, add-bitfield, add-bytes, add-dyn-bytes, align}
 use Rattle.alignment.specs.Answers.{ended}
 use Rattle.byte_aligner.specs.declared.Chunk.{Chunk}
 use Rattle.byte_aligner.specs.Lent.{Finished, finished}
 
--- the words of records, five a record
+-- a record's row, and the words of records
+abbrev pub row : Chunk → List ℕ
+row c = chunk-words (c .kind) (c .first) (c .count) (c .width) (c .symbol)
+
 unfoldable pub flat : List Chunk → List ℕ
 flat [] = []
-flat (c ∷ cs) = c .kind ∷ c .first ∷ c .count ∷ c .width ∷ c .symbol ∷ flat cs
+flat (c ∷ cs) = row c ++ flat cs
 
 -- the state with the placed words and the records
 pub record Held : Type 0 where
@@ -32,7 +36,7 @@ unfoldable pub bits-to : ℕ → ℕ → Held → Held
 bits-to symbol width h =
     let a = h .st in
     let total = a .width + width in
-    let ps = put 3 (a .placed) (symbol ∷ width ∷ a .width ∷ []) (h .ps) in
+    let ps = put placed-size (a .placed) (placed-words symbol width (a .width)) (h .ps) in
     pick (due total)
     (held (record { placed = a .placed + 1; chunks = a .chunks + 1; start = a .placed + 1; width = 0 }) ps
     (set (h .rs) (a .chunks) (record { kind = 1; first = a .start; count = a .placed + 1 - a .start; width = total; symbol = 0 })))

@@ -11,6 +11,7 @@ ghost use Rattle.byte_aligner.specs.Plans.{put-if, near-state, plan-of, 
 use alignment::Called;
 use alignment::Ended;
 use ast::numbers;
+use ast::words;
 use meaning::Aligner;
 
 // Stages a bit field; a total that is due becomes one chunk row.
@@ -111,11 +112,11 @@ fn planned(a: Aligner, rows: usize, r: Called, row: [u64; numbers::CHUNK_WORDS])
 {
     let s = r.state;
     let chunk = Chunk {
-        kind: row[0],
-        first: row[1],
-        count: row[2],
-        width: row[3],
-        symbol: row[4],
+        kind: row[words::CHUNK_KIND],
+        first: row[words::CHUNK_FIRST],
+        count: row[words::CHUNK_COUNT],
+        width: row[words::CHUNK_WIDTH],
+        symbol: row[words::CHUNK_SYMBOL],
     };
     if a.chunks < rows {
         if 0 < s.chunks {

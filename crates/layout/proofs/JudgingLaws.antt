@@ -2,7 +2,7 @@
 -- the symbol of the first staged placed row.
 use Prim.Native.Nat.{ℕ, zero, suc, _+_, _-_, _*_, _<_, _≤_}
 use mathlib.Core.Path.{_≡_, refl, sym, _∙_}
-use mathlib.Core.List.{List, [], _∷_}
+use mathlib.Core.List.{List}
 use mathlib.Core.Bool.{Bool, true, false}
 use native.Mathlib.Omega.{arith}
 use lib.ListN.{length}
@@ -11,6 +11,7 @@ use borrow.Author.Tests.{lt-ltb, ltb-true, ltb-false}
 use Rattle.meaning.specs.declared.Aligner.{Aligner}
 use Rattle.meaning.specs.Choice.{pick}
 use Rattle.meaning.specs.Tables.{put}
+use Rattle.meaning.specs.Rows.{placed-size, placed-symbol, placed-words, chunk-size, chunk-words}
 use Rattle.meaning.specs.Alignment.{World, world, staged, sound, settled, due, bits-number, dyn-number, end-number, bits-done, chunk-done, add-bitfield, add-dyn-bytes, call}
 use Rattle.meaning.specs.Feeding.{word, Fed, fed-refused, feed-fields}
 use Rattle.ast.specs.RowLaws.{fits-iff, length-put, put-word, put-word-before}
@@ -77,7 +78,7 @@ module _ (a : Aligner) (ps cs ps′ cs′ : List ℕ) (p : length ps′ ≡ leng
 pub record Held (ps cs : List ℕ) (w : World) (f : ℕ) : Type 0 where
   pub placed : length (w .ps) ≡ length ps
   pub chunks : length (w .cs) ≡ length cs
-  pub first : w .st .start < w .st .placed → word (w .ps) 3 (w .st .start) 0 ≡ f
+  pub first : w .st .start < w .st .placed → word (w .ps) placed-size (w .st .start) placed-symbol ≡ f
 
 module _ (ps cs : List ℕ) where
   either : (d : Bool) (x y : World) (f : ℕ) → Held ps cs x f → Held ps cs y f → Held ps cs (pick d x y) f
@@ -89,26 +90,29 @@ module _ (ps cs : List ℕ) where
     stays i = record { placed = h .placed; chunks = h .chunks; first = λ l. rw (lt-ltb _ _ l) (h .first l) }
 
     -- the row that a bit field takes
-    row-first : (i v : ℕ) → BitsFit v w → word (put 3 (w .st .placed) (i ∷ v ∷ w .st .width ∷ []) (w .ps)) 3 (w .st .start) 0 ≡ pick (staged (w .st)) f i
+    row-first : (i v : ℕ) → BitsFit v w
+        → word (put placed-size (w .st .placed) (placed-words i v (w .st .width)) (w .ps)) placed-size (w .st .start) placed-symbol ≡ pick (staged (w .st)) f i
     row-first i v b = cases (ltb (w .st .start) (w .st .placed)) refl
       where
         row : List ℕ
-        row = i ∷ v ∷ w .st .width ∷ []
+        row = placed-words i v (w .st .width)
 
-        cases : (d : Bool) → ltb (w .st .start) (w .st .placed) ≡ d → word (put 3 (w .st .placed) row (w .ps)) 3 (w .st .start) 0 ≡ pick d f i
+        cases : (d : Bool) → ltb (w .st .start) (w .st .placed) ≡ d
+            → word (put placed-size (w .st .placed) row (w .ps)) placed-size (w .st .start) placed-symbol ≡ pick d f i
         cases true e =
             let l : w .st .start < w .st .placed = ltb-true _ _ e in
-            put-word-before 3 (w .st .placed) row (w .ps) (w .st .start * 3 + 0) refl (omega arith) ∙ h .first l
+            put-word-before placed-size (w .st .placed) row (w .ps) (w .st .start * placed-size + placed-symbol) refl (omega arith) ∙ h .first l
         cases false e =
             let l : w .st .placed ≤ w .st .start = ltb-false _ _ e in
             let z : w .st .start ≡ w .st .placed = omega (arith, b .good .ordered) in
-            rw z (put-word 3 (w .st .placed) row (w .ps) 0 refl (fits-iff 3 _ _ (omega arith) (b .row)) (omega arith))
+            rw z (put-word placed-size (w .st .placed) row (w .ps) placed-symbol refl (fits-iff placed-size _ _ (omega arith) (b .row)) (omega arith))
 
     held-bits : (i v : ℕ) → BitsFit v w → Held ps cs (bits-done i v w) (pick (staged (w .st)) f i)
     unfolding bits-done
     held-bits i v b =
-        let p = length-put 3 (w .st .placed) (i ∷ v ∷ w .st .width ∷ []) (w .ps) refl ∙ h .placed in
-        let c = length-put 5 (w .st .chunks) (1 ∷ w .st .start ∷ (w .st .placed + 1 - w .st .start) ∷ (w .st .width + v) ∷ 0 ∷ []) (w .cs) refl ∙ h .chunks in
+        let p = length-put placed-size (w .st .placed) (placed-words i v (w .st .width)) (w .ps) refl ∙ h .placed in
+        let c = length-put chunk-size (w .st .chunks) (chunk-words 1 (w .st .start) (w .st .placed + 1 - w .st .start) (w .st .width + v) 0)
+        (w .cs) refl ∙ h .chunks in
         either (due (w .st .width + v)) _ _ _
         (record { placed = p; chunks = c; first = λ l. absurd (omega arith) })
         (record { placed = p; chunks = h .chunks; first = λ l. row-first i v b })
@@ -118,7 +122,7 @@ module _ (ps cs : List ℕ) where
     held-dyn i e =
         record {
           placed = h .placed;
-          chunks = length-put 5 (w .st .chunks) (3 ∷ 0 ∷ 0 ∷ 0 ∷ i ∷ []) (w .cs) refl ∙ h .chunks;
+          chunks = length-put chunk-size (w .st .chunks) (chunk-words 3 0 0 0 i) (w .cs) refl ∙ h .chunks;
           first = λ l. absurd (omega (arith, dyn-fit w e .bare));
         }
 
@@ -141,18 +145,20 @@ pub sound-judged : (ps cs : List ℕ) (r : Request) (a : Aligner) → Sound (wor
 unfolding judged
 sound-judged ps cs r a s e =
     let w = world a ps cs in
-    let h : Held ps cs w (word ps 3 (a .start) 0) = record { placed = refl; chunks = refl; first = λ l. refl } in
+    let h : Held ps cs w (word ps placed-size (a .start) placed-symbol) = record { placed = refl; chunks = refl; first = λ l. refl } in
     let k = held-next ps cs w _ h r 0 e in
     same-sound _ ps cs _ _ (k .placed) (k .chunks) (sound-served r 0 w s)
 
 -- ---- the whole
 module _ (fs ps cs : List ℕ) where
   -- 16 is given where fields are staged
-  end-place : (w : World) (f : ℕ) → Sound w → Held ps cs w f → pick (eqb (end-number w) 0) 0 f ≡ pick (eqb (end-number w) 0) 0 (word (w .ps) 3 (w .st .start) 0)
+  end-place : (w : World) (f : ℕ) → Sound w → Held ps cs w f → pick (eqb (end-number w) 0) 0 f
+      ≡ pick (eqb (end-number w) 0) 0 (word (w .ps) placed-size (w .st .start) placed-symbol)
   unfolding end-number
   end-place w f s h = rw (sound-is w s) (cases (ltb (w .st .start) (w .st .placed)) refl)
     where
-      cases : (d : Bool) → ltb (w .st .start) (w .st .placed) ≡ d → pick (eqb (pick d 16 0) 0) 0 f ≡ pick (eqb (pick d 16 0) 0) 0 (word (w .ps) 3 (w .st .start) 0)
+      cases : (d : Bool) → ltb (w .st .start) (w .st .placed) ≡ d → pick (eqb (pick d 16 0) 0) 0 f
+          ≡ pick (eqb (pick d 16 0) 0) 0 (word (w .ps) placed-size (w .st .start) placed-symbol)
       cases true e = sym (h .first (ltb-true _ _ e))
       cases false e = refl
 

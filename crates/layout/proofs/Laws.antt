@@ -12,8 +12,9 @@ use borrow.Author.Tests.{lt-ltb, le-ltb, le-leb, lt-leb, eq-eqb, ne-eqb}
 use Rattle.meaning.specs.declared.Aligner.{Aligner}
 use Rattle.meaning.specs.Choice.{pick, both}
 use Rattle.meaning.specs.Tables.{room}
+use Rattle.meaning.specs.Rows.{row-kind, field-flag-a, field-number-a, field-flag-b, field-condition, placed-size, chunk-size}
 use Rattle.meaning.specs.Alignment.{World, world, sound, due, bits-number, dyn-number, bits-done, chunk-done, Called, add-bitfield, add-dyn-bytes, call}
-use Rattle.meaning.specs.Feeding.{word, among, numbered}
+use Rattle.meaning.specs.Feeding.{field-word, among, numbered}
 use Rattle.alignment.specs.declared.Called as answer
 use Rattle.alignment.specs.NumberLaws.{Sound, sound-is}
 use Rattle.layout.specs.declared.Request.{Request}
@@ -91,20 +92,21 @@ module _ (k v : ℕ) (b : Bool) (e : b ≡ among k (3 ∷ 4 ∷ 5 ∷ 8 ∷ 10 �
       kind-refused x = rw (sym e ∙ t, sym g ∙ u, sym h ∙ x)
 
 -- ---- what a row asks for
-module _ (fs : List ℕ) (i k f o : ℕ) (ek : k ≡ word fs 20 i 0) (ef : f ≡ word fs 20 i 13) (eo : o ≡ word fs 20 i 15) (d : Bool) (e : d ≡ damage k f o) where
-  damage-is : damage (word fs 20 i 0) (word fs 20 i 13) (word fs 20 i 15) ≡ d
+module _ (fs : List ℕ) (i k f o : ℕ) (ek : k ≡ field-word fs i row-kind) (ef : f ≡ field-word fs i field-flag-a)
+    (eo : o ≡ field-word fs i field-flag-b) (d : Bool) (e : d ≡ damage k f o) where
+  damage-is : damage (field-word fs i row-kind) (field-word fs i field-flag-a) (field-word fs i field-flag-b) ≡ d
   damage-is = rw (← ek, ← ef, ← eo) (sym e)
 
   pub request-damaged : d ≡ true → Refused 17 ≡ request fs i
   unfolding request
   request-damaged t = rw (damage-is ∙ t)
 
-  module _ (t : d ≡ false) (c : ℕ) (ec : c ≡ word fs 20 i 19) where
+  module _ (t : d ≡ false) (c : ℕ) (ec : c ≡ field-word fs i field-condition) where
     pub request-condition : 0 < c → Dynamic ≡ request fs i
     unfolding request
     request-condition l = rw (damage-is ∙ t, ← ec) (simp (lt-ltb _ _ l))
 
-    pub request-kind : c ≤ 0 → (v : ℕ) → v ≡ word fs 20 i 14 → (r : Request) → r ≡ by-kind k v → r ≡ request fs i
+    pub request-kind : c ≤ 0 → (v : ℕ) → v ≡ field-word fs i field-number-a → (r : Request) → r ≡ by-kind k v → r ≡ request fs i
     unfolding request
     request-kind l v ev r er = rw (damage-is ∙ t, ← ec, ← ek, ← ev) (simp (le-ltb _ _ l) er)
 
@@ -130,16 +132,16 @@ module _ (a : Aligner) (ps cs : List ℕ) (s : Sound (world a ps cs)) where
       fits : ltb 64 (a .width + v) ≡ false
       fits = le-ltb 64 (a .width + v) (omega (arith, s .narrow))
 
-      pub bits-13 : room 3 ps ≤ a .placed → record { number = 13; state = a } ≡ judged (Bits v) a ps cs
+      pub bits-13 : room placed-size ps ≤ a .placed → record { number = 13; state = a } ≡ judged (Bits v) a ps cs
       unfolding judged served call bits-number
       bits-13 i = simp (good, fits, le-leb _ _ i)
 
-      module _ (i : a .placed < room 3 ps) (b : Bool) (e : b ≡ due (a .width + v)) where
-        pub bits-13′ : b ≡ true → room 5 cs ≤ a .chunks → record { number = 13; state = a } ≡ judged (Bits v) a ps cs
+      module _ (i : a .placed < room placed-size ps) (b : Bool) (e : b ≡ due (a .width + v)) where
+        pub bits-13′ : b ≡ true → room chunk-size cs ≤ a .chunks → record { number = 13; state = a } ≡ judged (Bits v) a ps cs
         unfolding judged served call bits-number
         bits-13′ t j = simp (good, fits, lt-leb _ _ i, sym e ∙ t, le-leb _ _ j)
 
-        pub bits-chunk : b ≡ true → a .chunks < room 5 cs
+        pub bits-chunk : b ≡ true → a .chunks < room chunk-size cs
             → record { number = 0; state = record { placed = a .placed + 1; chunks = a .chunks + 1; start = a .placed + 1; width = 0 } } ≡ judged (Bits v) a ps cs
         unfolding judged served call bits-number bits-done
         bits-chunk t j = simp (good, fits, lt-leb _ _ i, sym e ∙ t, lt-leb _ _ j)
@@ -154,11 +156,11 @@ module _ (a : Aligner) (ps cs : List ℕ) (s : Sound (world a ps cs)) where
   dyn-10 h = simp (good, lt-ltb _ _ h)
 
   module _ (h : a .placed ≤ a .start) where
-    pub dyn-13 : room 5 cs ≤ a .chunks → record { number = 13; state = a } ≡ judged Dynamic a ps cs
+    pub dyn-13 : room chunk-size cs ≤ a .chunks → record { number = 13; state = a } ≡ judged Dynamic a ps cs
     unfolding judged served call dyn-number
     dyn-13 i = simp (good, le-ltb _ _ h, le-leb _ _ i)
 
-    pub dyn-chunk : a .chunks < room 5 cs
+    pub dyn-chunk : a .chunks < room chunk-size cs
         → record { number = 0; state = record { placed = a .placed; chunks = a .chunks + 1; start = a .start; width = a .width } } ≡ judged Dynamic a ps cs
     unfolding judged served call dyn-number chunk-done
     dyn-chunk i = simp (good, le-ltb _ _ h, lt-leb _ _ i)

@@ -8,19 +8,20 @@ use lib.Dec.{ltb, leb}
 use borrow.Author.Tests.{lt-ltb, le-ltb, le-leb, lt-leb, ne-eqb, ltb-true, ltb-false, leb-false}
 use Rattle.meaning.specs.declared.Aligner.{Aligner}
 use Rattle.meaning.specs.Choice.{pick}
-use Rattle.meaning.specs.Tables.{room}
+use Rattle.meaning.specs.Tables.{Table, size, room}
+use Rattle.meaning.specs.Rows.{row-kind, declaration-first, declaration-count}
 use Rattle.meaning.specs.Alignment.{fresh, world}
-use Rattle.meaning.specs.Feeding.{word, Fed, laid, feed-fields, feed-number, layout}
+use Rattle.meaning.specs.Feeding.{declaration-word, Fed, laid, feed-fields, feed-number, layout}
 use Rattle.layout.specs.declared.Verdict.{Verdict}
 use Rattle.layout.specs.Judging.{verdict, Accepted}
 
 -- ---- the declaration
 module _ (ds fs : List ℕ) (d : ℕ) where
-  pub number-past : room 17 ds ≤ d → 15 ≡ feed-number ds fs d
+  pub number-past : room (size Table.declarations) ds ≤ d → 15 ≡ feed-number ds fs d
   unfolding feed-number
   number-past h = simp (le-leb _ _ h)
 
-  module _ (h : d < room 17 ds) (k : ℕ) (e : k ≡ word ds 17 d 0) where
+  module _ (h : d < room (size Table.declarations) ds) (k : ℕ) (e : k ≡ declaration-word ds d row-kind) where
     pub number-low : k < 2 → 15 ≡ feed-number ds fs d
     unfolding feed-number
     number-low i = rw (← e) (simp (lt-leb _ _ h, lt-ltb _ _ i))
@@ -30,12 +31,12 @@ module _ (ds fs : List ℕ) (d : ℕ) where
       unfolding feed-number
       number-high j = rw (← e) (simp (lt-leb _ _ h, le-ltb _ _ i, lt-ltb _ _ j))
 
-      module _ (j : k ≤ 4) (first count : ℕ) (p : first ≡ word ds 17 d 13) (q : count ≡ word ds 17 d 14) where
-        pub number-17 : room 20 fs < first + count → 17 ≡ feed-number ds fs d
+      module _ (j : k ≤ 4) (first count : ℕ) (p : first ≡ declaration-word ds d declaration-first) (q : count ≡ declaration-word ds d declaration-count) where
+        pub number-17 : room (size Table.fields) fs < first + count → 17 ≡ feed-number ds fs d
         unfolding feed-number
         number-17 l = rw (← e, ← p, ← q) (simp (lt-leb _ _ h, le-ltb _ _ i, le-ltb _ _ j, lt-ltb _ _ l))
 
-        pub number-0 : first + count ≤ room 20 fs → 0 ≡ feed-number ds fs d
+        pub number-0 : first + count ≤ room (size Table.fields) fs → 0 ≡ feed-number ds fs d
         unfolding feed-number
         number-0 l = rw (← e, ← p, ← q) (simp (lt-leb _ _ h, le-ltb _ _ i, le-ltb _ _ j, le-ltb _ _ l))
 
@@ -57,16 +58,17 @@ module _ (ps cs : List ℕ) (x : Fed) where
 
 module _ (ds fs : List ℕ) (d : ℕ) (n : ℕ) (e : n ≡ feed-number ds fs d) where
   module _ (z : n ≡ 0) where
-    pub index-fits : d < room 17 ds
+    pub index-fits : d < room (size Table.declarations) ds
     unfolding feed-number
     index-fits = leb-false _ _ (past _ 15 _ refl (sym e ∙ z) .0)
 
-    pub rows-fit : (first count : ℕ) → first ≡ word ds 17 d 13 → count ≡ word ds 17 d 14 → first + count ≤ room 20 fs
+    pub rows-fit : (first count : ℕ) → first ≡ declaration-word ds d declaration-first
+        → count ≡ declaration-word ds d declaration-count → first + count ≤ room (size Table.fields) fs
     unfolding feed-number
     rows-fit first count p q =
-        let r1 = past (leb (room 17 ds) d) 15 _ refl (sym e ∙ z) in
-        let r2 = past (ltb (word ds 17 d 0) 2) 15 _ refl (r1 .1) in
-        let r3 = past (ltb 4 (word ds 17 d 0)) 15 _ refl (r2 .1) in
+        let r1 = past (leb (room (size Table.declarations) ds) d) 15 _ refl (sym e ∙ z) in
+        let r2 = past (ltb (declaration-word ds d row-kind) 2) 15 _ refl (r1 .1) in
+        let r3 = past (ltb 4 (declaration-word ds d row-kind)) 15 _ refl (r2 .1) in
         rw (p, q) (ltb-false _ _ (past _ 17 0 refl (r3 .1) .0))
 
   module _ (ps cs : List ℕ) where
@@ -78,7 +80,8 @@ module _ (ds fs : List ℕ) (d : ℕ) (n : ℕ) (e : n ≡ feed-number ds fs d) 
     pub refused : (n ≡ 0 → ⊥) → record { number = n; place = d; placed = 0; chunks = 0; ps = ps; cs = cs } ≡ layout ds fs d ps cs
     refused h = refuses n refl h
 
-    module _ (z : n ≡ 0) (first count : ℕ) (p : first ≡ word ds 17 d 13) (q : count ≡ word ds 17 d 14) (v : Verdict) (ev : v ≡ verdict (feed-fields fs count first (world fresh ps cs))) where
+    module _ (z : n ≡ 0) (first count : ℕ) (p : first ≡ declaration-word ds d declaration-first) (q : count ≡ declaration-word ds d declaration-count)
+        (v : Verdict) (ev : v ≡ verdict (feed-fields fs count first (world fresh ps cs))) where
       opens : layout ds fs d ps cs ≡ laid (feed-fields fs count first (world fresh ps cs)) ps cs
       unfolding layout
       opens = rw (sym e ∙ z, layout, p, q)

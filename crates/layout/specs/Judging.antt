@@ -5,7 +5,7 @@ use mathlib.Core.List.{List}
 use lib.Dec.{eqb}
 use Rattle.meaning.specs.declared.Aligner.{Aligner}
 use Rattle.meaning.specs.Choice.{pick}
-use Rattle.meaning.specs.Tables.{room}
+use Rattle.meaning.specs.Tables.{Table, size, room}
 use Rattle.meaning.specs.Alignment.{fresh, world, staged, end-number}
 use Rattle.meaning.specs.Feeding as meaning
 use Rattle.alignment.specs.declared.Called.{Called}
@@ -37,7 +37,7 @@ judge fs ps cs (suc n) i a f = then (judged (request fs i) a ps cs) i (λ b. jud
 
 -- the fields are rows, and feeding them is accepted
 pub record Accepted (fs : List ℕ) (first count : ℕ) (ps cs : List ℕ) : Type 0 where
-  pub rows : first + count ≤ room 20 fs
+  pub rows : first + count ≤ room (size Table.fields) fs
   pub number : meaning.feed-fields fs count first (world fresh ps cs) .number ≡ 0
 
 -- the answer of the whole with the words that it leaves

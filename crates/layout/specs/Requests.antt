@@ -5,8 +5,9 @@ use mathlib.Core.List.{List, [], _∷_}
 use mathlib.Core.Bool.{Bool, true, false}
 use lib.Dec.{ltb, eqb}
 use Rattle.meaning.specs.Choice.{pick, both}
+use Rattle.meaning.specs.Rows.{row-kind, field-flag-a, field-number-a, field-flag-b, field-condition}
 use Rattle.meaning.specs.Alignment.{World, first, _⇒_, Called, add-bitfield, add-dyn-bytes, call}
-use Rattle.meaning.specs.Feeding.{word, among, numbered, damaged, refusing, feed-field}
+use Rattle.meaning.specs.Feeding.{field-word, among, numbered, damaged, refusing, feed-field}
 use Rattle.layout.specs.declared.Request.{Request}
 use Rattle.layout.specs.declared.Request.the-variants.{Nothing, Bits, Dynamic, Refused}
 
@@ -30,8 +31,8 @@ by-kind kind width =
 
 unfoldable pub request : List ℕ → ℕ → Request
 request fs i =
-    pick (damage (word fs 20 i 0) (word fs 20 i 13) (word fs 20 i 15)) (Refused 17)
-    (pick (ltb 0 (word fs 20 i 19)) Dynamic (by-kind (word fs 20 i 0) (word fs 20 i 14)))
+    pick (damage (field-word fs i row-kind) (field-word fs i field-flag-a) (field-word fs i field-flag-b)) (Refused 17)
+    (pick (ltb 0 (field-word fs i field-condition)) Dynamic (by-kind (field-word fs i row-kind) (field-word fs i field-number-a)))
 
 -- the aligner's answer to it; i is the symbol
 unfoldable pub served : Request → ℕ → World → Called
@@ -49,8 +50,8 @@ module _ (i : ℕ) (w : World) where
   pub feeds : (fs : List ℕ) → feed-field fs i w ≡ served (request fs i) i w
   unfolding feed-field request served damage by-kind
   feeds fs =
-      let kind = word fs 20 i 0 in
+      let kind = field-word fs i row-kind in
       choice (damaged fs i) _ _ (Refused 17) _ refl
-      (choice (ltb 0 (word fs 20 i 19)) _ _ Dynamic _ refl
-      (choice (among kind (3 ∷ 4 ∷ 5 ∷ 8 ∷ 10 ∷ 12 ∷ [])) _ _ (Bits (word fs 20 i 14)) _ refl
+      (choice (ltb 0 (field-word fs i field-condition)) _ _ Dynamic _ refl
+      (choice (among kind (3 ∷ 4 ∷ 5 ∷ 8 ∷ 10 ∷ 12 ∷ [])) _ _ (Bits (field-word fs i field-number-a)) _ refl
       (choice (among kind (6 ∷ 7 ∷ 11 ∷ [])) _ _ Dynamic _ refl (choice (among kind (1 ∷ 2 ∷ [])) _ _ Nothing (Refused 14) refl refl))))

@@ -2,7 +2,7 @@
 ghost use mathlib.Core.Path.{_≡_};
 ghost use Prim.Native.Nat.{_+_, _≤_};
 ghost use Rattle.meaning.specs.Choice.{pick};
-ghost use Rattle.meaning.specs.Tables.{room};
+ghost use Rattle.meaning.specs.Tables.{Table, size, room};
 ghost use Rattle.meaning.specs.Alignment.{fresh, world, staged, due};
 ghost use Rattle.meaning.specs.Feeding.{feed-fields};
 ghost use Rattle.alignment.specs.NumberLaws.{Sound};
@@ -119,7 +119,7 @@ pub fn judge_fields(
     placed: &[u64],
     chunks: &[u64],
 ) -> Verdict
-    requires { ⌜ first + count ≤ room 20 (now fields) ⌝ }
+    requires { ⌜ first + count ≤ room (size Table.fields) (now fields) ⌝ }
     ensures { λ r. ⌜ r ≡ verdict (feed-fields (now (fields .entry)) count first (world fresh (now (placed .entry)) (now (chunks .entry)))) ⌝ }
 {
     let end = first + count;

@@ -8,6 +8,10 @@ use crate::judging::judge_fields;
 use crate::requests::field_request;
 use crate::requests::word_of;
 use ast::numbers;
+use ast::numbers::DECLARATION_WORDS;
+use ast::words::DECLARATION_COUNT;
+use ast::words::DECLARATION_FIRST;
+use ast::words::ROW_KIND;
 use meaning::Aligner;
 
 mod judging;
@@ -84,10 +88,10 @@ fn place_fields(
 fn declaration_number(declarations: &[u64], fields: &[u64], index: usize) -> u64
     ensures { λ r. ⌜ r ≡ feed-number (now (declarations .entry)) (now (fields .entry)) index ⌝ }
 {
-    if declarations.len() / numbers::DECLARATION_WORDS <= index {
+    if declarations.len() / DECLARATION_WORDS <= index {
         return numbers::NO_SUCH_DECLARATION;
     }
-    let kind = word_of(declarations, numbers::DECLARATION_WORDS, index, 0);
+    let kind = word_of(declarations, DECLARATION_WORDS, index, ROW_KIND);
     if kind < 2 {
         return numbers::NO_SUCH_DECLARATION;
     }
@@ -95,8 +99,8 @@ fn declaration_number(declarations: &[u64], fields: &[u64], index: usize) -> u64
         return numbers::NO_SUCH_DECLARATION;
     }
     let rows = (fields.len() / numbers::FIELD_WORDS) as u64;
-    let first = word_of(declarations, numbers::DECLARATION_WORDS, index, 13);
-    let count = word_of(declarations, numbers::DECLARATION_WORDS, index, 14);
+    let first = word_of(declarations, DECLARATION_WORDS, index, DECLARATION_FIRST);
+    let count = word_of(declarations, DECLARATION_WORDS, index, DECLARATION_COUNT);
     if rows < count {
         return numbers::DAMAGED_ROW;
     }
@@ -125,8 +129,8 @@ pub fn lay_out(
             chunks: 0,
         };
     }
-    let first = word_of(declarations, numbers::DECLARATION_WORDS, index, 13) as usize;
-    let count = word_of(declarations, numbers::DECLARATION_WORDS, index, 14) as usize;
+    let first = word_of(declarations, DECLARATION_WORDS, index, DECLARATION_FIRST) as usize;
+    let count = word_of(declarations, DECLARATION_WORDS, index, DECLARATION_COUNT) as usize;
     let v = judge_fields(fields, first, count, placed, chunks);
     if v.number != 0 {
         return Layout {

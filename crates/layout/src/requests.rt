@@ -1,11 +1,12 @@
 // What a field row asks of the aligner: its words decide, and not the aligner's state.
 ghost use mathlib.Core.Path.{_≡_};
 ghost use Prim.Native.Nat.{_<_};
-ghost use Rattle.meaning.specs.Tables.{room};
+ghost use Rattle.meaning.specs.Tables.{Table, size, room};
 ghost use Rattle.meaning.specs.Feeding.{word, among};
 ghost use Rattle.layout.specs.Requests.{damage, by-kind, request};
 use crate::Request;
 use ast::numbers;
+use ast::words;
 
 // A word of a whole row.
 pub fn word_of(t: &[u64], size: usize, k: usize, i: usize) -> u64
@@ -73,19 +74,19 @@ fn kind_request(kind: u64, width: u64) -> Request
 
 // What a field row asks for: a condition makes any kind dynamic bytes.
 pub fn field_request(fields: &[u64], i: usize) -> Request
-    requires { ⌜ i < room 20 (now fields) ⌝ }
+    requires { ⌜ i < room (size Table.fields) (now fields) ⌝ }
     ensures { λ r. ⌜ r ≡ request (now (fields .entry)) i ⌝ }
 {
-    let kind = word_of(fields, numbers::FIELD_WORDS, i, 0);
-    let flag = word_of(fields, numbers::FIELD_WORDS, i, 13);
-    let other = word_of(fields, numbers::FIELD_WORDS, i, 15);
+    let kind = word_of(fields, numbers::FIELD_WORDS, i, words::ROW_KIND);
+    let flag = word_of(fields, numbers::FIELD_WORDS, i, words::FIELD_FLAG_A);
+    let other = word_of(fields, numbers::FIELD_WORDS, i, words::FIELD_FLAG_B);
     if is_damaged(kind, flag, other) {
         return Request::Refused(numbers::DAMAGED_ROW);
     }
-    let condition = word_of(fields, numbers::FIELD_WORDS, i, 19);
+    let condition = word_of(fields, numbers::FIELD_WORDS, i, words::FIELD_CONDITION);
     if 0 < condition {
         return Request::Dynamic;
     }
-    let width = word_of(fields, numbers::FIELD_WORDS, i, 14);
+    let width = word_of(fields, numbers::FIELD_WORDS, i, words::FIELD_NUMBER_A);
     kind_request(kind, width)
 }
