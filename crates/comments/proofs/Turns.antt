@@ -11,7 +11,7 @@ use Rattle.meaning.specs.declared.Match.the-variants.{Missed, Took}
 use Rattle.meaning.specs.declared.SourceLocation.{SourceLocation}
 use Rattle.meaning.specs.Peg.{Peg, run, bytewise, hit, taken}
 use Rattle.meaning.specs.Pdl.{COMMENT, string}
-use Rattle.meaning.specs.Tables.{Item, Table, rowsOf, count, put, puts}
+use Rattle.meaning.specs.Tables.{Item, Table, size, rowsOf, count, put, puts}
 use Rattle.meaning.specs.Walk.{comment-row}
 use Rattle.grammar.specs.Matching.{eats}
 use Rattle.grammar.specs.Nodes.{hit-pos}
@@ -93,7 +93,7 @@ pub record Passed (s t₀ t : List ℕ) (k i : ℕ) (p : SourceLocation) : Type 
   pub here : p ≡ placeAt s (p .offset)
   pub back : p .offset ≤ i
   pub same : length t ≡ length t₀
-  pub table : puts 7 0 (rowsOf Table.comments (lexical s)) t₀ ≡ puts 7 k (rowsOf Table.comments (onward s i)) t
+  pub table : puts (size Table.comments) 0 (rowsOf Table.comments (lexical s)) t₀ ≡ puts (size Table.comments) k (rowsOf Table.comments (onward s i)) t
 
 pub passed-start : (s t : List ℕ) → Passed s t t 0 0 (at 0 0 0)
 passed-start s t = record { counted = counted-start s; here = sym (placeAt-start s); back = omega arith; same = refl; table = refl }
@@ -110,7 +110,7 @@ module _ {s t₀ t : List ℕ} {k i : ℕ} {p : SourceLocation} (w : Passed s t�
         here = w .here;
         back = omega (arith, w .back);
         same = w .same;
-        table = w .table ∙ ap (λ (xs : List Item). puts 7 k (rowsOf Table.comments xs) t) (onward-past s i l c z a);
+        table = w .table ∙ ap (λ (xs : List Item). puts (size Table.comments) k (rowsOf Table.comments xs) t) (onward-past s i l c z a);
       }
 
   pub passed-comment : {n b : ℕ} {q r : SourceLocation} {ws u : List ℕ} → Comment s i n → (n ≡ 0 → ⊥) → q ≡ placeAt s i → r ≡ placeAt s (i + n) → b ≡ kind-of s i
@@ -119,18 +119,20 @@ module _ {s t₀ t : List ℕ} {k i : ℕ} {p : SourceLocation} (w : Passed s t�
   passed-comment {n} {b} {q} {r} {ws} {u} c nz qe re be we ue =
       let v = seen s (i + n) r re (c .fits) in
       let x : ws ≡ words (kind-of s i) (placeAt s i) (placeAt s (i + n)) = we ∙ rw (be, qe, re) in
-      let l : length ws ≡ 7 = ap length x in
-      let y : u ≡ put 7 k (words (kind-of s i) (placeAt s i) (placeAt s (i + n))) t = ue ∙ rw (l, x) in
+      let l : length ws ≡ size Table.comments = ap length x in
+      let y : u ≡ put (size Table.comments) k (words (kind-of s i) (placeAt s i) (placeAt s (i + n))) t = ue ∙ rw (l, x) in
       record {
         counted = counted-comment (w .counted) c nz;
         here = v .0;
         back = omega (arith, v .1);
         same = ap length ue ∙ length-put (length ws) k ws t refl ∙ w .same;
-        table = w .table ∙ ap (λ (xs : List Item). puts 7 k (rowsOf Table.comments xs) t) (onward-comment s i c nz) ∙ ap (puts 7 (k + 1) (rowsOf Table.comments (onward s (i + n)))) (sym y);
+        table = w .table ∙ ap (λ (xs : List Item). puts (size Table.comments) k (rowsOf Table.comments xs) t) (onward-comment s i c nz)
+            ∙ ap (puts (size Table.comments) (k + 1) (rowsOf Table.comments (onward s (i + n)))) (sym y);
       }
 
   pub passed-end : length s ≤ i → left k t ≡ written s t₀
   unfolding puts rowsOf written
   passed-end h =
-      let e : puts 7 0 (rowsOf Table.comments (lexical s)) t₀ ≡ t = w .table ∙ ap (λ (xs : List Item). puts 7 k (rowsOf Table.comments xs) t) (onward-end s i h) in
+      let e : puts (size Table.comments) 0 (rowsOf Table.comments (lexical s)) t₀ ≡ t
+      = w .table ∙ ap (λ (xs : List Item). puts (size Table.comments) k (rowsOf Table.comments xs) t) (onward-end s i h) in
       rw (e, ← counted-end (w .counted) h)

@@ -1,7 +1,7 @@
 -- What the functions say of a place in a source.
 use Prim.Native.Nat.{ℕ, zero, suc, _+_, _≤_, _<_}
 use mathlib.Core.Path.{_≡_}
-use mathlib.Core.List.{List, [], _∷_}
+use mathlib.Core.List.{List}
 use mathlib.Core.Bool.{false}
 use lib.ListN.{length, drop}
 use Rattle.meaning.specs.declared.SourceLocation.{SourceLocation}
@@ -9,6 +9,7 @@ use Rattle.meaning.specs.Choice.{pick}
 use Rattle.meaning.specs.Quoted.{bytes}
 use Rattle.meaning.specs.Peg.{prefixb, run, bytewise, taken}
 use Rattle.meaning.specs.Pdl.{COMMENT, string}
+use Rattle.meaning.specs.Rows.{place-words, comment-words}
 
 -- from e on, no text starts that closes a block comment
 pub record Closed (s : List ℕ) (e : ℕ) : Type 0 where
@@ -34,4 +35,4 @@ unfoldable pub kind-of : List ℕ → ℕ → ℕ
 kind-of s i = pick (prefixb (bytes "/*") (drop i s)) 1 2
 
 abbrev pub words : ℕ → SourceLocation → SourceLocation → List ℕ
-words kind p q = kind ∷ p .offset ∷ p .line ∷ p .column ∷ q .offset ∷ q .line ∷ q .column ∷ []
+words kind p q = comment-words kind (place-words p q)

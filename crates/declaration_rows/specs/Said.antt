@@ -9,6 +9,7 @@ use Rattle.meaning.specs.Forest.{Forest, nil, tree, _⊕_}
 use Rattle.meaning.specs.Pdl.{constraint-list}
 use Rattle.meaning.specs.Places.{placeAt}
 use Rattle.meaning.specs.Tables.{Table, Item, row, count, firstOf}
+use Rattle.meaning.specs.Rows.{declaration-words}
 use Rattle.meaning.specs.Walk.{Part, node, part, following, each, place, name, unquoted, optional, number, parse-constraint-list, parse-enum-tag, parse-field-list, parse-declaration}
 use Rattle.grammar.specs.Nodes.{⊕-assoc}
 use Rattle.spans.specs.declared.Token.{Token}
@@ -130,7 +131,7 @@ declarationBy src xs kind o len int id second width cs w =
     let m = count Table.constraints cs in
     int ++ cs ++ ts ++ fs
     ++ row Table.declarations
-    (kind ∷ place src o len ++ id ++ second ++ width ++ firstOf (count own xs) n ∷ n ∷ firstOf (count Table.constraints xs) m ∷ m ∷ [])
+    (declaration-words kind (place src o len) id second width (firstOf (count own xs) n) n (firstOf (count Table.constraints xs) m) m)
     ∷ []
 
 module _ (src : List ℕ) (xs : List Item) (kind o len : ℕ) where

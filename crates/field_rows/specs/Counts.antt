@@ -7,6 +7,7 @@ use Rattle.meaning.specs.Choice.{pick}
 use Rattle.meaning.specs.Forest.{Forest, nil, tree}
 use Rattle.meaning.specs.Rules.{Rule}
 use Rattle.meaning.specs.Tables.{Table, Item, row, rowsOf, count, firstOf}
+use Rattle.meaning.specs.Rows.{field-words}
 use Rattle.meaning.specs.Walk.{Part, node, part, following, place, name, optional, numbers, constraint-number, constraint-row, parse-constraint-list, Desc, described, parse-field, parse-field-list}
 use Rattle.walk.specs.Counts.{count-append}
 
@@ -30,8 +31,8 @@ rows src d = count Table.constraints (parse-constraint-list src (d .group))
 unfoldable pub fieldBy : List ℕ → ℕ → Desc → Part → ℕ → ℕ → List Item
 fieldBy src k d if s l =
     shape (pick (if .found) (constraint-number src if) []) (numbers src (d .ints)) (parse-constraint-list src (d .group)) (pick (if .found) (constraint-row src if) [])
-    (d .kind ∷ place src s l ++ name (d .a) ++ name (d .b) ++ name (d .c) ++ optional src (d .na) ++ optional src (d .nb)
-    ++ firstOf k (rows src d) ∷ rows src d ∷ pick (if .found) (k + rows src d + 1) 0 ∷ [])
+    (field-words (d .kind) (place src s l) (name (d .a)) (name (d .b)) (name (d .c)) (optional src (d .na)) (optional src (d .nb))
+    (firstOf k (rows src d)) (rows src d) (pick (if .found) (k + rows src d + 1) 0))
 
 pub field-by : (src : List ℕ) (xs : List Item) (s l : ℕ) (kids more : Forest)
     → parse-field src xs (node s l kids more) ≡ fieldBy src (count Table.constraints xs) (described kids) (part Rule.constraint (following kids)) s l

@@ -1,12 +1,13 @@
 -- What a field's description says in the words of its spans, and that this is what the walk makes of the nodes that it draws.
 use Prim.Native.Nat.{ℕ, _+_}
 use mathlib.Core.Path.{_≡_, refl}
-use mathlib.Core.List.{List, [], _∷_, _++_}
+use mathlib.Core.List.{List, _++_}
 use lib.Dec.{eqb}
 use Rattle.meaning.specs.Choice.{pick}
 use Rattle.meaning.specs.Forest.{Forest, _⊕_}
 use Rattle.meaning.specs.Places.{placeAt}
 use Rattle.meaning.specs.Tables.{Item}
+use Rattle.meaning.specs.Rows.{field-words}
 use Rattle.meaning.specs.Walk.{place, name, optional, numbers, Desc, describe, described}
 use Rattle.spans.specs.declared.Span.{Span}
 use Rattle.spans.specs.declared.Token.{Token}
@@ -68,7 +69,7 @@ rowOf d src s l first n cond = fieldWords (d .kind) (placeAt src s) (placeAt src
 -- the walk's description d of a field says x, and has the group's nodes g
 pub record Says (src : List ℕ) (x : Described) (g : Forest) (d : Desc) : Type 0 where
   pub words : (s l first n cond : ℕ) →
-      d .kind ∷ place src s l ++ name (d .a) ++ name (d .b) ++ name (d .c) ++ optional src (d .na) ++ optional src (d .nb) ++ first ∷ n ∷ cond ∷ []
+      field-words (d .kind) (place src s l) (name (d .a)) (name (d .b)) (name (d .c)) (optional src (d .na)) (optional src (d .nb)) first n cond
       ≡ rowOf x src s l first n cond
   pub ints : numbers src (d .ints) ≡ saidNumbers x
   pub group : d .group ≡ g

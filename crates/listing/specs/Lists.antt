@@ -1,10 +1,10 @@
 -- What the programs list of a source: at most 16,384 bytes of it, over tables of 40, 100, 100, 60 and 100 rows (01, at P3).
-use Prim.Native.Nat.{ℕ}
+use Prim.Native.Nat.{ℕ, _*_}
 use mathlib.Core.List.{List}
 use lib.Dec.{ltb, eqb}
 use lib.ListN.{length, getD, replicate}
 use Rattle.meaning.specs.Choice.{pick}
-use Rattle.meaning.specs.Tables.{Lent}
+use Rattle.meaning.specs.Tables.{Table, size, Lent}
 use Rattle.meaning.specs.Reading.{Outcome, answer}
 use Rattle.io.specs.Counts.{Counts}
 use Rattle.printing.specs.Pages.{Wrote}
@@ -18,7 +18,14 @@ longest = 16384
 
 -- tables in which nothing stands yet
 abbrev pub empty : Lent
-empty = record { w1 = replicate 680 0; w2 = replicate 2000 0; w3 = replicate 1200 0; w4 = replicate 720 0; w5 = replicate 700 0 }
+empty =
+    record {
+      w1 = replicate (40 * size Table.declarations) 0;
+      w2 = replicate (100 * size Table.fields) 0;
+      w3 = replicate (100 * size Table.tags) 0;
+      w4 = replicate (60 * size Table.constraints) 0;
+      w5 = replicate (100 * size Table.comments) 0;
+    }
 
 -- the layouts of an accepted source; the refusal of any other
 unfoldable pub laidOut : Outcome → List ℕ

@@ -4,6 +4,7 @@ use mathlib.Core.List.{List, [], _∷_, _++_}
 use lib.Dec.{eqb}
 use lib.ListN.{getD}
 use Rattle.meaning.specs.Choice.{pick}
+use Rattle.meaning.specs.Tables.{Table, size}
 use Rattle.meaning.specs.Reading.{Outcome}
 use Rattle.printing.specs.Lines.{line, lines}
 
@@ -14,8 +15,11 @@ refusal number place reason = line 82 (number ∷ place ∷ reason ∷ [])
 -- D, F, T, C, M
 abbrev pub tables : List ℕ → List ℕ → List ℕ → List ℕ → List ℕ → List ℕ → List ℕ
 tables counts ds fs ts cs ms =
-    lines 68 17 (getD counts 0 0) ds ++ lines 70 20 (getD counts 1 0) fs ++ lines 84 12 (getD counts 2 0) ts
-    ++ lines 67 12 (getD counts 3 0) cs ++ lines 77 7 (getD counts 4 0) ms
+    lines 68 (size Table.declarations) (getD counts 0 0) ds
+    ++ lines 70 (size Table.fields) (getD counts 1 0) fs
+    ++ lines 84 (size Table.tags) (getD counts 2 0) ts
+    ++ lines 67 (size Table.constraints) (getD counts 3 0) cs
+    ++ lines 77 (size Table.comments) (getD counts 4 0) ms
 
 -- E, and the rows behind it
 abbrev pub reading : List ℕ → List ℕ → List ℕ → List ℕ → List ℕ → List ℕ → List ℕ → List ℕ

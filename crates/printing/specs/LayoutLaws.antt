@@ -1,10 +1,11 @@
 -- Laws of layouts: the lines of one declaration from its layout, and a loop's next declaration.
-use Prim.Native.Nat.{ℕ, zero, suc, _+_, _-_, _≤_, _<_}
+use Prim.Native.Nat.{ℕ, zero, suc, _+_, _-_, _*_, _≤_, _<_}
 use mathlib.Core.Path.{_≡_, refl}
 use mathlib.Core.List.{List, [], _∷_, _++_}
 use native.Mathlib.Omega.{arith}
 use lib.ListN.{replicate}
 use borrow.Author.Tests.{eq-eqb, ne-eqb}
+use Rattle.meaning.specs.Rows.{placed-size, chunk-size}
 use Rattle.layout.specs.declared.Layout as answer
 use Rattle.layout.specs.Judging.{answered}
 use Rattle.meaning.specs.Feeding.{layout}
@@ -13,7 +14,8 @@ use Rattle.printing.specs.PageLaws.{none-wrote}
 use Rattle.printing.specs.Layouts.{laid, layoutOf, layouts}
 
 -- ---- one declaration, from what the layout answered
-module _ (ds fs : List ℕ) (k : ℕ) (r : answer.Layout) (ps cs : List ℕ) (e : answered r ps cs ≡ layout ds fs k (replicate 300 0) (replicate 500 0)) where
+module _ (ds fs : List ℕ) (k : ℕ) (r : answer.Layout) (ps cs : List ℕ)
+    (e : answered r ps cs ≡ layout ds fs k (replicate (100 * placed-size) 0) (replicate (100 * chunk-size) 0)) where
   pub not-laid : (at : ℕ) (p : List ℕ) → r .number ≡ 15 → Wrote (layoutOf ds fs k) at p at p
   unfolding layoutOf
   not-laid at p h = rw (← e, eq-eqb (r .number) 15 h) (none-wrote at p)

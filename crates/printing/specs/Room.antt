@@ -10,6 +10,7 @@ use lib.ListN.{length, getD, take, drop, set, length-append, length-drop, length
 use lib.Seq.{take-suc-set, length-take-le, append-snoc}
 use borrow.Author.Tests.{lt-ltb, ltb-false}
 use Rattle.meaning.specs.Choice.{pick}
+use Rattle.meaning.specs.Tables.{Table, size}
 use Rattle.printing.specs.Pages.{Page, page, put, wrote, Wrote}
 use Rattle.printing.specs.Lines.{digitsOf, decimal, words, line, lines}
 use Rattle.printing.specs.Answers.{reading}
@@ -87,9 +88,14 @@ pub reading-room : (e counts ds fs ts cs ms : List ℕ)
     → length (reading e counts ds fs ts cs ms) ≤ 21 * length e + 2 + 23 * (length ds + length fs + length ts + length cs + length ms)
 reading-room e counts ds fs ts cs ms =
     let w : length (words e) ≤ 21 * length e = words-room e in
-    let d : length (lines 68 17 (getD counts 0 0) ds) ≤ 23 * length ds = lines-room 68 17 (getD counts 0 0) ds (omega arith) in
-    let f : length (lines 70 20 (getD counts 1 0) fs) ≤ 23 * length fs = lines-room 70 20 (getD counts 1 0) fs (omega arith) in
-    let t : length (lines 84 12 (getD counts 2 0) ts) ≤ 23 * length ts = lines-room 84 12 (getD counts 2 0) ts (omega arith) in
-    let c : length (lines 67 12 (getD counts 3 0) cs) ≤ 23 * length cs = lines-room 67 12 (getD counts 3 0) cs (omega arith) in
-    let m : length (lines 77 7 (getD counts 4 0) ms) ≤ 23 * length ms = lines-room 77 7 (getD counts 4 0) ms (omega arith) in
+    let d : length (lines 68 (size Table.declarations) (getD counts 0 0) ds) ≤ 23 * length ds
+    = lines-room 68 (size Table.declarations) (getD counts 0 0) ds (omega arith) in
+    let f : length (lines 70 (size Table.fields) (getD counts 1 0) fs) ≤ 23 * length fs
+    = lines-room 70 (size Table.fields) (getD counts 1 0) fs (omega arith) in
+    let t : length (lines 84 (size Table.tags) (getD counts 2 0) ts) ≤ 23 * length ts
+    = lines-room 84 (size Table.tags) (getD counts 2 0) ts (omega arith) in
+    let c : length (lines 67 (size Table.constraints) (getD counts 3 0) cs) ≤ 23 * length cs
+    = lines-room 67 (size Table.constraints) (getD counts 3 0) cs (omega arith) in
+    let m : length (lines 77 (size Table.comments) (getD counts 4 0) ms) ≤ 23 * length ms
+    = lines-room 77 (size Table.comments) (getD counts 4 0) ms (omega arith) in
     simp length-append (omega arith)

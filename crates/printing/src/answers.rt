@@ -51,7 +51,7 @@ fn put_tables(
 pub fn put_reading(
     page: &mut [u8],
     at: usize,
-    endianness: [u64; 7],
+    endianness: [u64; numbers::ENDIANNESS_WORDS],
     counts: [u64; 5],
     declarations: &[u64],
     fields: &[u64],

@@ -18,8 +18,8 @@ fn put_laid(page: &mut [u8], at: usize, answer: [u64; 6], placed: &[u64], chunks
 fn put_layout(page: &mut [u8], at: usize, k: usize, declarations: &[u64], fields: &[u64]) -> usize
     ensures { λ r. ⌜ Wrote (layoutOf (now (declarations .entry)) (now (fields .entry)) k) at (now (page .entry)) r (now (page .exit)) ⌝ }
 {
-    let mut placed = [0u64; 300];
-    let mut chunks = [0u64; 500];
+    let mut placed = [0u64; 100 * numbers::PLACED_WORDS];
+    let mut chunks = [0u64; 100 * numbers::CHUNK_WORDS];
     let r = layout::lay_out(declarations, fields, k, &mut placed, &mut chunks);
     if r.number == numbers::NO_SUCH_DECLARATION {
         return at;

@@ -16,6 +16,7 @@ use Rattle.meaning.specs.Rules.{Rule}
 use Rattle.meaning.specs.Forest.{Forest}
 use Rattle.meaning.specs.Pdl.{text, WHITESPACE, endianness-declaration}
 use Rattle.meaning.specs.Places.{placeAt}
+use Rattle.meaning.specs.Rows.{endianness-words}
 use Rattle.meaning.specs.Walk.{part, textOf, place, endianness}
 use Rattle.grammar.specs.Matching.{Reads}
 use Rattle.grammar.specs.Steps.{rest-is}
@@ -88,12 +89,18 @@ pub said-big : {t : List ℕ} {m : Match} {b : Bool} → Reads (lit little) t m 
 said-big {t} h e q = ap (λ (b : Bool). pick b 1 2) (sym q) ∙ said-by t h e
 
 -- ---- the words of a file that the grammar matches
-line-words : {src : List ℕ} → Matched src → endianness src (whole src) ≡ said (drop (line-start src) src) ∷ place src (line-start src) (line-length src)
+line-words : {src : List ℕ} → Matched src → endianness src (whole src)
+    ≡ endianness-words (said (drop (line-start src) src)) (place src (line-start src) (line-length src))
 unfolding line-length
 line-words {src} m =
-    ap (λ (w : Forest). said (textOf src (part Rule.endianness-declaration (part Rule.file w .kids))) ∷ place src (part Rule.endianness-declaration (part Rule.file w .kids) .start) (part Rule.endianness-declaration (part Rule.file w .kids) .len)) (joined m)
-    ∙ ap₂ (λ (o n : ℕ). said (take n (drop o src)) ∷ place src o n) (line-node src (m .hits)) (line-node-length src (m .hits))
-    ∙ ap (λ (b : Bool). pick b 1 2 ∷ place src (line-start src) (line-length src)) (line-says (drop (line-start src) src) (line-hit src (m .hits)))
+    ap
+    (λ (w : Forest).
+    let line = part Rule.endianness-declaration (part Rule.file w .kids) in
+    endianness-words (said (textOf src line)) (place src (line .start) (line .len)))
+    (joined m)
+    ∙ ap₂ (λ (o n : ℕ). endianness-words (said (take n (drop o src))) (place src o n)) (line-node src (m .hits)) (line-node-length src (m .hits))
+    ∙ ap (λ (b : Bool). endianness-words (pick b 1 2) (place src (line-start src) (line-length src)))
+    (line-says (drop (line-start src) src) (line-hit src (m .hits)))
 
 -- x is the line, k is said at its start, p and q are its places
 pub endianness-done : {src : List ℕ} {x : Line} {k : ℕ} {p q : SourceLocation} → Matched src → Lined src x → k ≡ said (take (length src - x .start) (drop (x .start) src))

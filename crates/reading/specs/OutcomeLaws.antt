@@ -7,7 +7,7 @@ use borrow.Author.Tests.{eq-eqb, ne-eqb}
 use lib.ListN.{length}
 use lib.Dec.{ltb, eqb}
 use Rattle.meaning.specs.Choice.{pick}
-use Rattle.meaning.specs.Tables.{Table, Item, count, short, needed, all}
+use Rattle.meaning.specs.Tables.{Table, size, Item, count, short, needed, all}
 use Rattle.meaning.specs.Walk.{items, endianness}
 use Rattle.meaning.specs.Reading.{Reading, refused, accepted, reading, settle, answer}
 use Rattle.walk.specs.declared.Walk.{Walk}
@@ -58,7 +58,9 @@ module _ (src d f t c m : List ℕ) (h : Accepts src) {x : Survey} (e : x ≡ su
   y-is : y ≡ lack (short all xs (lending d f t c m)) (needed all xs (lending d f t c m))
   y-is =
       i ∙ ap (λ (z : Survey). shortOf z (length d ∷ length f ∷ length t ∷ length c ∷ length m ∷ [])) x-is
-      ∙ table-and-rows (ltb (length d / 17) (count Table.declarations xs)) (ltb (length f / 20) (count Table.fields xs)) (ltb (length t / 12) (count Table.tags xs)) (ltb (length c / 12) (count Table.constraints xs)) (ltb (length m / 7) (count Table.comments xs))
+      ∙ table-and-rows (ltb (length d / size Table.declarations) (count Table.declarations xs))
+      (ltb (length f / size Table.fields) (count Table.fields xs)) (ltb (length t / size Table.tags) (count Table.tags xs))
+      (ltb (length c / size Table.constraints) (count Table.constraints xs)) (ltb (length m / size Table.comments) (count Table.comments xs))
       (count Table.declarations xs) (count Table.fields xs) (count Table.tags xs) (count Table.constraints xs) (count Table.comments xs)
 
   table-is : y .table ≡ short all xs (lending d f t c m)

@@ -2,6 +2,7 @@
 use Prim.Native.Nat.{ℕ}
 use mathlib.Core.List.{List, [], _∷_}
 use Rattle.meaning.specs.Tables.{Lent}
+use Rattle.meaning.specs.Rows.{endianness-size}
 use Rattle.meaning.specs.Reading.{Outcome, zeros}
 use Rattle.reading.specs.declared.Answer.{Answer}
 use Rattle.reading.specs.declared.Survey.{Survey}
@@ -19,7 +20,7 @@ outcome r d f t c m =
     }
 
 abbrev pub refusing : ℕ → ℕ → ℕ → Answer
-refusing n p r = record { number = n; place = p; reason = r; counts = zeros 5; endianness = zeros 7 }
+refusing n p r = record { number = n; place = p; reason = r; counts = zeros 5; endianness = zeros endianness-size }
 
 abbrev pub accepting : Survey → List ℕ → Answer
 accepting x e =

@@ -44,7 +44,12 @@ comment-rows (a-comment {ws} n a) b = ap (λ (rs : List (List ℕ)). ws ∷ rs) 
 
 -- ---- every row has its table's size
 abbrev size-at : ℕ → ℕ
-size-at n = pick (eqb n 1) 17 (pick (eqb n 2) 20 (pick (eqb n 5) 7 12))
+size-at n =
+    pick (eqb n (number Table.declarations)) (size Table.declarations)
+    (pick (eqb n (number Table.fields)) (size Table.fields)
+    (pick (eqb n (number Table.tags)) (size Table.tags)
+    (pick (eqb n (number Table.constraints)) (size Table.constraints)
+    (size Table.comments))))
 
 by-number : (t : Table) → size t ≡ size-at (number t)
 by-number Table.declarations = refl

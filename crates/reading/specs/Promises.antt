@@ -13,6 +13,7 @@ use Rattle.meaning.specs.Rules.{Rule}
 use Rattle.meaning.specs.Forest.{Out, missed, took, eval, clean}
 use Rattle.meaning.specs.Pdl.{file}
 use Rattle.meaning.specs.Tables.{Table, size, Item, rowsOf, count, firstBad, flat, room, Lent, lent, filled, fill, short, needed, all}
+use Rattle.meaning.specs.Rows.{endianness-size}
 use Rattle.meaning.specs.Walk.{part, items, endianness}
 use Rattle.meaning.specs.Reading.{Reading, refused, accepted, longest, walked, parsed, reading, Outcome, zeros, stored, settle, answer}
 use Rattle.reading.specs.Sorts.{of-toplevel, of-comments}
@@ -32,7 +33,7 @@ pub record Orderly (l : Lent) (o : Outcome) : Type 0 where
   pub accepted : o .answer .number ≡ 0 → (o .answer .place ≡ 0) × (o .answer .reason ≡ 0)
   pub tables : (o .answer .number ≡ 0 → ⊥) → o .left ≡ l
   pub counts : (o .answer .number ≡ 0 → ⊥) → o .answer .counts ≡ zeros 5
-  pub endianness : (o .answer .number ≡ 0 → ⊥) → o .answer .endianness ≡ zeros 7
+  pub endianness : (o .answer .number ≡ 0 → ⊥) → o .answer .endianness ≡ zeros endianness-size
 
 -- refusals 1 to 4
 abbrev Numbered : Reading → Type 0

@@ -7,7 +7,7 @@ use lib.ListN.{length}
 use Rattle.meaning.specs.Choice.{pick}
 use Rattle.meaning.specs.Rules.{Rule, is}
 use Rattle.meaning.specs.Forest.{Forest, nil, tree}
-use Rattle.meaning.specs.Tables.{Table, Item, row, count, firstOf}
+use Rattle.meaning.specs.Tables.{Table, size, Item, row, count, firstOf}
 use Rattle.meaning.specs.Walk.{Part, node, part, following, each, optional, parse-constraint-list, parse-enum-tag, parse-field-list, kinds, kindIn, parse-declaration, parse-kind, parse-toplevel, comments}
 use Rattle.declaration_rows.specs.Sorts.{Sorted, none, a-row, sorted-++, sorted-each, of-number, of-constraints, of-enum-tag, of-fields}
 
@@ -22,7 +22,7 @@ others Table.comments = false
 -- rows of comments alone
 pub data Commented : List Item → Type 0 where
   no-comment : Commented []
-  a-comment : {ws : List ℕ} {xs : List Item} → length ws ≡ 7 → Commented xs → Commented (row Table.comments ws ∷ xs)
+  a-comment : {ws : List ℕ} {xs : List Item} → length ws ≡ size Table.comments → Commented xs → Commented (row Table.comments ws ∷ xs)
 
 -- ---- what the walk over declarations meets
 module _ (src : List ℕ) where

@@ -5,7 +5,7 @@ use mathlib.Core.List.{List}
 use lib.ListN.{getD}
 use lib.Dec.{ltb}
 use Rattle.meaning.specs.Choice.{pick}
-use Rattle.meaning.specs.Tables.{Table, count}
+use Rattle.meaning.specs.Tables.{Table, number, size, count}
 use Rattle.meaning.specs.Reading.{Reading, refused, accepted}
 use Rattle.reading.specs.declared.Survey.{Survey}
 use Rattle.reading.specs.declared.Short.{Short}
@@ -25,16 +25,16 @@ surveyed (accepted e xs) =
       comments = count Table.comments xs;
     }
 
--- the table of this number, with its rows of so many words, lacks some of the rows needed; or else what the others say
-abbrev pub lacks : ℕ → ℕ → ℕ → ℕ → Short → Short
-lacks table size length needed else = pick (ltb (length / size) needed) (record { table = table; needed = needed }) else
+-- the table lacks some of the rows needed; or else what the others say
+abbrev pub lacks : Table → ℕ → ℕ → Short → Short
+lacks t length needed else = pick (ltb (length / size t) needed) (record { table = number t; needed = needed }) else
 
 -- the lengths of the tables are in words
 abbrev pub shortOf : Survey → List ℕ → Short
 shortOf x l =
-    lacks 1 17 (getD l 0 0) (x .declarations)
-    (lacks 2 20 (getD l 1 0) (x .fields)
-    (lacks 3 12 (getD l 2 0) (x .tags)
-    (lacks 4 12 (getD l 3 0) (x .constraints)
-    (lacks 5 7 (getD l 4 0) (x .comments)
+    lacks Table.declarations (getD l 0 0) (x .declarations)
+    (lacks Table.fields (getD l 1 0) (x .fields)
+    (lacks Table.tags (getD l 2 0) (x .tags)
+    (lacks Table.constraints (getD l 3 0) (x .constraints)
+    (lacks Table.comments (getD l 4 0) (x .comments)
     (record { table = 0; needed = 0 })))))

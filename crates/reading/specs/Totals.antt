@@ -7,7 +7,7 @@ use mathlib.Core.List.{List, [], _∷_}
 use mathlib.Core.Bool.{Bool, true, false}
 use lib.Dec.{eqb}
 use Rattle.meaning.specs.Choice.{pick}
-use Rattle.meaning.specs.Tables.{Table, Item, int, row, rowsOf, count, firstBad, puts}
+use Rattle.meaning.specs.Tables.{Table, size, Item, int, row, rowsOf, count, firstBad, puts}
 use Rattle.walk.specs.declared.Walk.{Walk}
 use Rattle.walk.specs.State.{State, state, fresh, noted, emits}
 
@@ -22,7 +22,8 @@ totals xs = walk (count Table.declarations xs) (count Table.fields xs) (count Ta
 abbrev left : List Item → ℕ → ℕ → ℕ → ℕ → ℕ → ℕ → List ℕ → List ℕ → List ℕ → List ℕ → State
 left xs a b e g p r d f t c =
     state (walk (a + count Table.declarations xs) (b + count Table.fields xs) (e + count Table.tags xs) (g + count Table.constraints xs) p r)
-    (puts 17 a (rowsOf Table.declarations xs) d) (puts 20 b (rowsOf Table.fields xs) f) (puts 12 e (rowsOf Table.tags xs) t) (puts 12 g (rowsOf Table.constraints xs) c)
+    (puts (size Table.declarations) a (rowsOf Table.declarations xs) d) (puts (size Table.fields) b (rowsOf Table.fields xs) f)
+    (puts (size Table.tags) e (rowsOf Table.tags xs) t) (puts (size Table.constraints) g (rowsOf Table.constraints xs) c)
 
 next : (n k : ℕ) → n + 1 + k ≡ n + suc k
 next n k = omega arith
@@ -66,10 +67,10 @@ after-good (row Table.comments ws ∷ xs) a b e g d f t c = after-good xs a b e 
 -- ---- from an empty state on
 pub record Tabled (xs : List Item) (r : Walk) (d d' f f' t t' c c' : List ℕ) : Type 0 where
   pub totals : r ≡ totals xs
-  pub declarations : d' ≡ puts 17 0 (rowsOf Table.declarations xs) d
-  pub fields : f' ≡ puts 20 0 (rowsOf Table.fields xs) f
-  pub tags : t' ≡ puts 12 0 (rowsOf Table.tags xs) t
-  pub constraints : c' ≡ puts 12 0 (rowsOf Table.constraints xs) c
+  pub declarations : d' ≡ puts (size Table.declarations) 0 (rowsOf Table.declarations xs) d
+  pub fields : f' ≡ puts (size Table.fields) 0 (rowsOf Table.fields xs) f
+  pub tags : t' ≡ puts (size Table.tags) 0 (rowsOf Table.tags xs) t
+  pub constraints : c' ≡ puts (size Table.constraints) 0 (rowsOf Table.constraints xs) c
 
 pub tabled : (xs : List Item) (r : Walk) (d d' f f' t t' c c' : List ℕ) → state r d' f' t' c' ≡ emits xs (state fresh d f t c) → Tabled xs r d d' f f' t t' c c'
 tabled xs r d d' f f' t t' c c' e =

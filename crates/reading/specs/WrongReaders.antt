@@ -7,6 +7,7 @@ use lib.ListN.{take, drop, getD, replicate}
 use lib.Seq.{getD-take}
 use Rattle.meaning.specs.Quoted.{bytes}
 use Rattle.meaning.specs.Tables.{Table, size, rowsOf, count, flat, room, Lent, lent, all}
+use Rattle.meaning.specs.Rows.{row-kind, start-offset}
 use Rattle.meaning.specs.Walk.{items}
 use Rattle.meaning.specs.Reading.{Outcome, counted, answer}
 use Rattle.meaning.specs.Everything.{everything}
@@ -33,7 +34,7 @@ abbrev pub two-packets : List ℕ
 two-packets = bytes "little_endian_packets\npacket A {}\npacket B {}"
 
 abbrev pub desk : Lent
-desk = record { w1 = replicate 34 0; w2 = replicate 40 0; w3 = []; w4 = []; w5 = [] }
+desk = record { w1 = replicate (2 * size Table.declarations) 0; w2 = replicate (2 * size Table.fields) 0; w3 = []; w4 = []; w5 = [] }
 
 p3-number : answer p3 desk .answer .number ≡ 0
 unfolding everything
@@ -45,7 +46,7 @@ unfolding everything
 p3-count = refl
 
 -- the kind of its first field
-p3-kind : getD (answer p3 desk .left .w2) 0 0 ≡ 12
+p3-kind : getD (answer p3 desk .left .w2) row-kind 0 ≡ 12
 unfolding everything
 p3-kind = refl
 
@@ -54,16 +55,22 @@ unfolding everything
 two-number = refl
 
 -- it has no field
-two-kind : getD (answer two-packets desk .left .w2) 0 0 ≡ 0
+two-kind : getD (answer two-packets desk .left .w2) row-kind 0 ≡ 0
 unfolding everything
 two-kind = refl
 
--- where its packets start
-two-first : getD (take 17 (answer two-packets desk .left .w1)) 1 0 ≡ 22
+-- the rows of the first two declarations, and where its packets start
+abbrev pub first-row : List ℕ → List ℕ
+first-row t = take (size Table.declarations) t
+
+abbrev pub second-row : List ℕ → List ℕ
+second-row t = first-row (drop (size Table.declarations) t)
+
+two-first : getD (first-row (answer two-packets desk .left .w1)) start-offset 0 ≡ 22
 unfolding everything
 two-first = refl
 
-two-second : getD (take 17 (drop 17 (answer two-packets desk .left .w1))) 1 0 ≡ 34
+two-second : getD (second-row (answer two-packets desk .left .w1)) start-offset 0 ≡ 34
 unfolding everything
 two-second = refl
 
@@ -83,13 +90,13 @@ module _ (f : Reader) (is : Right f) where
   pub same-rows : ((src : List ℕ) (l : Lent) → f src l .answer .number ≡ 0 → f src l .left ≡ answer p3 l .left) → ⊥
   same-rows h =
       let e = ap (λ (o : Outcome). o .left) (sym (is two-packets desk)) ∙ h two-packets desk (accepts two-packets desk two-number) in
-      omega (arith, p3-kind, two-kind, ap (λ (l : Lent). getD (l .w2) 0 0) e)
+      omega (arith, p3-kind, two-kind, ap (λ (l : Lent). getD (l .w2) row-kind 0) e)
 
   -- it accepts and writes nothing
   pub writes-nothing : ((src : List ℕ) (l : Lent) → f src l .answer .number ≡ 0 → f src l .left ≡ l) → ⊥
   writes-nothing h =
       let e = ap (λ (o : Outcome). o .left) (sym (is p3 desk)) ∙ h p3 desk (accepts p3 desk p3-number) in
-      omega (arith, p3-kind, ap (λ (l : Lent). getD (l .w2) 0 0) e)
+      omega (arith, p3-kind, ap (λ (l : Lent). getD (l .w2) row-kind 0) e)
 
   -- it invents a word, anywhere in the rows of any table
   pub invents : (src : List ℕ) (l : Lent) → f src l .answer .number ≡ 0 → (t : Table) (i : ℕ) → i < count t (items src (whole src)) * size t
@@ -102,16 +109,16 @@ module _ (f : Reader) (is : Right f) where
       )
 
   -- it repeats the row of the first of two packets as that of the second
-  pub repeats : take 17 (drop 17 (f two-packets desk .left .w1)) ≡ take 17 (f two-packets desk .left .w1) → ⊥
+  pub repeats : second-row (f two-packets desk .left .w1) ≡ first-row (f two-packets desk .left .w1) → ⊥
   repeats h =
-      let e : take 17 (drop 17 (answer two-packets desk .left .w1)) ≡ take 17 (answer two-packets desk .left .w1) = rw is at h in
-      omega (arith, two-first, two-second, ap (λ (ws : List ℕ). getD ws 1 0) e)
+      let e : second-row (answer two-packets desk .left .w1) ≡ first-row (answer two-packets desk .left .w1) = rw is at h in
+      omega (arith, two-first, two-second, ap (λ (ws : List ℕ). getD ws start-offset 0) e)
 
   -- it reports counts of its own
   pub own-counts : (src : List ℕ) (l : Lent) → f src l .answer .number ≡ 0 → (f src l .answer .counts ≡ counted all (items src (whole src)) → ⊥) → ⊥
   own-counts src l h n = n (ap (λ (o : Outcome). o .answer .counts) (is src l ∙ rows src l (acceptable src l h)))
 
   -- it counts as declarations all rows that have room
-  pub counts-room : ((src : List ℕ) (l : Lent) → f src l .answer .number ≡ 0 → getD (f src l .answer .counts) 0 0 ≡ room 17 (l .w1)) → ⊥
+  pub counts-room : ((src : List ℕ) (l : Lent) → f src l .answer .number ≡ 0 → getD (f src l .answer .counts) 0 0 ≡ room (size Table.declarations) (l .w1)) → ⊥
   counts-room h =
       omega (arith, p3-count, ap (λ (o : Outcome). getD (o .answer .counts) 0 0) (is p3 desk), h p3 desk (accepts p3 desk p3-number))

@@ -8,6 +8,7 @@ ghost use Rattle.reading.specs.Lines.{Lined};
 ghost use Rattle.reading.specs.Matched.{Matched, whole, declared};
 ghost use Rattle.reading.specs.Totals.{totals, Tabled};
 ghost use Rattle.reading.specs.Endianness.{said};
+use ast::numbers;
 use declarations::files::endianness_declaration;
 use lexis::blanks::blanks;
 use meaning::SourceLocation;
@@ -56,7 +57,7 @@ fn endian(s: &[u8]) -> u64
 }
 
 // The endianness and its place.
-pub fn endianness(s: &[u8]) -> [u64; 7]
+pub fn endianness(s: &[u8]) -> [u64; numbers::ENDIANNESS_WORDS]
     requires { ⌜ Matched (now s) ⌝ }
     ensures { λ r. ⌜ r ≡ endianness (now (s .entry)) (whole (now (s .entry))) ⌝ }
 {

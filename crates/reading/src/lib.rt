@@ -26,7 +26,7 @@ pub struct Answer {
     pub place: u64,
     pub reason: u64,
     pub counts: [u64; 5],
-    pub endianness: [u64; 7],
+    pub endianness: [u64; numbers::ENDIANNESS_WORDS],
 }
 
 // What a source holds: its first refusal of 1 to 4, or the rows that each table needs.
@@ -56,7 +56,7 @@ fn refusal(number: u64, place: u64, reason: u64) -> Answer
         place,
         reason,
         counts: [0; 5],
-        endianness: [0; 7],
+        endianness: [0; numbers::ENDIANNESS_WORDS],
     }
 }
 

@@ -8,7 +8,7 @@ use lib.ListN.{length}
 use Rattle.meaning.specs.Choice.{pick}
 use Rattle.meaning.specs.Rules.{Rule, is}
 use Rattle.meaning.specs.Forest.{Forest, nil, tree}
-use Rattle.meaning.specs.Tables.{Table, Item, int, row, rowsOf, count, put}
+use Rattle.meaning.specs.Tables.{Table, size, Item, int, row, rowsOf, count, put}
 use Rattle.meaning.specs.Walk.{Part, node, each, number, value-of, tag-row, parse-enum-value}
 use Rattle.ast.specs.RowLaws.{Sized}
 use Rattle.ast.specs.Late.{put-comm}
@@ -29,7 +29,7 @@ tags-after (row Table.comments ws ∷ xs) s = tags-after xs (emit (row Table.com
 
 -- ---- the values inside a range have whole rows
 abbrev pub Whole : List Item → Type 0
-Whole xs = Sized 12 (rowsOf Table.tags xs)
+Whole xs = Sized (size Table.tags) (rowsOf Table.tags xs)
 
 whole-append : (xs ys : List Item) → Whole xs → Whole ys → Whole (xs ++ ys)
 unfolding rowsOf Sized
@@ -72,15 +72,16 @@ whole-values src (tree q s l k more) = whole-append (pick (is Rule.enum-value q)
 
 -- ---- a row below those that follow
 abbrev pub under : ℕ → List ℕ → State → State
-under k ws s = state (s .n) (s .d) (s .f) (put 12 k ws (s .t)) (s .c)
+under k ws s = state (s .n) (s .d) (s .f) (put (size Table.tags) k ws (s .t)) (s .c)
 
-pub late : (xs : List Item) (k : ℕ) (ws : List ℕ) (s : State) → k < s .n .tags → length ws ≡ 12 → Whole xs → emits xs (under k ws s) ≡ under k ws (emits xs s)
+pub late : (xs : List Item) (k : ℕ) (ws : List ℕ) (s : State) → k < s .n .tags → length ws ≡ size Table.tags
+    → Whole xs → emits xs (under k ws s) ≡ under k ws (emits xs s)
 unfolding emits rowsOf Sized
 late [] k ws s h e w = refl
 late (int p r ∷ xs) k ws s h e w = late xs k ws (emit (int p r) s) (omega (arith, noted-counts Table.tags p r (s .n))) e w
 late (row Table.declarations r ∷ xs) k ws s h e w = late xs k ws (emit (row Table.declarations r) s) h e w
 late (row Table.fields r ∷ xs) k ws s h e w = late xs k ws (emit (row Table.fields r) s) h e w
 late (row Table.tags r ∷ xs) k ws s h e w =
-    rw (put-comm 12 k (s .n .tags) ws r (s .t) h e (w .0)) (late xs k ws (emit (row Table.tags r) s) (omega arith) e (w .1))
+    rw (put-comm (size Table.tags) k (s .n .tags) ws r (s .t) h e (w .0)) (late xs k ws (emit (row Table.tags r) s) (omega arith) e (w .1))
 late (row Table.constraints r ∷ xs) k ws s h e w = late xs k ws (emit (row Table.constraints r) s) h e w
 late (row Table.comments r ∷ xs) k ws s h e w = late xs k ws s h e w

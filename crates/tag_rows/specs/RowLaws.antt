@@ -15,7 +15,7 @@ use Rattle.meaning.specs.Peg.{run, bytewise, hit, taken}
 use Rattle.meaning.specs.Forest.{nil, nodes}
 use Rattle.meaning.specs.Pdl.{enum-value, enum-value-list}
 use Rattle.meaning.specs.Places.{placeAt}
-use Rattle.meaning.specs.Tables.{Table, Item, row, count, put}
+use Rattle.meaning.specs.Tables.{Table, size, Item, row, count, put}
 use Rattle.meaning.specs.Walk.{each, part}
 use Rattle.spans.specs.declared.Span.{Span}
 use Rattle.spans.specs.declared.TagValue.{TagValue}
@@ -85,11 +85,12 @@ other-done {src} {at} {p} {len} {x} {n} {r} {ws} {t} {u} w ew h =
     done-as (ap (λ (y : List ℕ). row Table.tags y ∷ []) (sym ew)) refl (record { wrote = h; few = row-few h (w .place .some) (w .few) })
 
 -- ---- a range: its row stands before its values', and is written after them
-words-length : (kind : ℕ) (p q : SourceLocation) (id : Name) (a b : Number) (i : ℕ) → length (tagWords kind p q id a b i) ≡ 12
+words-length : (kind : ℕ) (p q : SourceLocation) (id : Name) (a b : Number) (i : ℕ) → length (tagWords kind p q id a b i) ≡ size Table.tags
 unfolding tagWords
 words-length kind p q id a b i = refl
 
-first-row : (ws : List ℕ) (xs : List Item) (m : Walk) (d f t c : List ℕ) → emits (row Table.tags ws ∷ xs) (state m d f t c) ≡ emits xs (state (with-tag m) d f (put 12 (m .tags) ws t) c)
+first-row : (ws : List ℕ) (xs : List Item) (m : Walk) (d f t c : List ℕ)
+    → emits (row Table.tags ws ∷ xs) (state m d f t c) ≡ emits xs (state (with-tag m) d f (put (size Table.tags) (m .tags) ws t) c)
 unfolding emits
 first-row ws xs m d f t c = refl
 
@@ -115,13 +116,13 @@ module _ {src : List ℕ} {at : ℕ} {p : SourceLocation} {len : ℕ} {x : TagRa
       → ws ≡ rangeRow src at len x (count Table.tags (innerItems src at (x .tags)))
       → v ≡ put (length ws) (m .tags) ws u → Done (rangeItems src at len x) (at + len) n r t v
   range-done {a} {b} {l} {m} {r} {ws} {t} {u} {v} ea eb el em h ew ev =
-      let e12 : length ws ≡ 12 = ap length ew ∙ words-length _ _ _ _ _ _ _ in
+      let whole : length ws ≡ size Table.tags = ap length ew ∙ words-length _ _ _ _ _ _ _ in
       record {
         wrote = record {
           done = λ d f c.
-              ap (λ (y : List ℕ). state r d f y c) (ev ∙ ap (λ (k : ℕ). put k (m .tags) ws u) e12)
-              ∙ ap (λ (s : State). state (s .n) (s .d) (s .f) (put 12 (m .tags) ws (s .t)) (s .c)) (h .wrote .done d f c)
-              ∙ sym (late (innerItems src at (x .tags)) (m .tags) ws (state (with-tag m) d f t c) (omega arith) e12 (whole-values src _))
+              ap (λ (y : List ℕ). state r d f y c) (ev ∙ ap (λ (k : ℕ). put k (m .tags) ws u) whole)
+              ∙ ap (λ (s : State). state (s .n) (s .d) (s .f) (put (size Table.tags) (m .tags) ws (s .t)) (s .c)) (h .wrote .done d f c)
+              ∙ sym (late (innerItems src at (x .tags)) (m .tags) ws (state (with-tag m) d f t c) (omega arith) whole (whole-values src _))
               ∙ sym (first-row ws (innerItems src at (x .tags)) m d f t c)
               ∙ ap (λ (y : List ℕ). emits (row Table.tags y ∷ innerItems src at (x .tags)) (state m d f t c)) ew
               ∙ number-first src (at + x .end .start) (x .end .len) l d f t c

@@ -17,7 +17,7 @@ use Rattle.spans.specs.declared.Token.{Token}
 use Rattle.walk.specs.declared.Walk.{Walk}
 use Rattle.walk.specs.declared.Name.{Name}
 use Rattle.walk.specs.declared.Number.{Number}
-use Rattle.meaning.specs.Tables.{Table, row, put, firstOf}
+use Rattle.meaning.specs.Tables.{Table, size, row, put, firstOf}
 use Rattle.walk.specs.State.{noted, state, emits, with-declaration, with-field, with-tag, with-constraint, WroteTags, WroteConstraints, PutField, PutDeclaration}
 use Rattle.walk.specs.Said.{numberAt, unquotedName, Inside, InsideToken}
 
@@ -78,18 +78,25 @@ sized : (n k : ℕ) (ws t u : List ℕ) → length ws ≡ n → u ≡ put (lengt
 sized n k ws t u e h = h ∙ ap (λ (i : ℕ). put i k ws t) e
 
 module _ (n : Walk) (ws t u : List ℕ) where
-  pub tag-put : length ws ≡ 12 → u ≡ put (length ws) (n .tags) ws t → WroteTags (row Table.tags ws ∷ []) n (with-tag n) t u
+  pub tag-put : length ws ≡ size Table.tags → u ≡ put (length ws) (n .tags) ws t → WroteTags (row Table.tags ws ∷ []) n (with-tag n) t u
   unfolding emits
-  tag-put e h = record { done = λ d f c. ap (λ (v : List ℕ). state (with-tag n) d f v c) (sized 12 (n .tags) ws t u e h) }
+  tag-put e h = record { done = λ d f c. ap (λ (v : List ℕ). state (with-tag n) d f v c) (sized (size Table.tags) (n .tags) ws t u e h) }
 
-  pub constraint-put : length ws ≡ 12 → u ≡ put (length ws) (n .constraints) ws t → WroteConstraints (row Table.constraints ws ∷ []) n (with-constraint n) t u
+  pub constraint-put : length ws ≡ size Table.constraints → u ≡ put (length ws) (n .constraints) ws t
+      → WroteConstraints (row Table.constraints ws ∷ []) n (with-constraint n) t u
   unfolding emits
-  constraint-put e h = record { done = λ d f c. ap (λ (v : List ℕ). state (with-constraint n) d f c v) (sized 12 (n .constraints) ws t u e h) }
+  constraint-put e h = record {
+    done = λ d f c. ap (λ (v : List ℕ). state (with-constraint n) d f c v)
+        (sized (size Table.constraints) (n .constraints) ws t u e h);
+  }
 
-  pub field-put : length ws ≡ 20 → u ≡ put (length ws) (n .fields) ws t → PutField ws n (with-field n) t u
+  pub field-put : length ws ≡ size Table.fields → u ≡ put (length ws) (n .fields) ws t → PutField ws n (with-field n) t u
   unfolding emits
-  field-put e h = record { done = λ d f c. ap (λ (v : List ℕ). state (with-field n) d v f c) (sized 20 (n .fields) ws t u e h) }
+  field-put e h = record { done = λ d f c. ap (λ (v : List ℕ). state (with-field n) d v f c) (sized (size Table.fields) (n .fields) ws t u e h) }
 
-  pub declaration-put : length ws ≡ 17 → u ≡ put (length ws) (n .declarations) ws t → PutDeclaration ws n (with-declaration n) t u
+  pub declaration-put : length ws ≡ size Table.declarations → u ≡ put (length ws) (n .declarations) ws t → PutDeclaration ws n (with-declaration n) t u
   unfolding emits
-  declaration-put e h = record { done = λ f x c. ap (λ (v : List ℕ). state (with-declaration n) v f x c) (sized 17 (n .declarations) ws t u e h) }
+  declaration-put e h = record {
+    done = λ f x c. ap (λ (v : List ℕ). state (with-declaration n) v f x c)
+        (sized (size Table.declarations) (n .declarations) ws t u e h);
+  }

@@ -7,6 +7,7 @@ use Rattle.meaning.specs.declared.SourceLocation.{SourceLocation}
 use Rattle.meaning.specs.Choice.{pick}
 use Rattle.meaning.specs.Convert.{convert, reasonOf, valueOf}
 use Rattle.meaning.specs.Tables.{Item, int}
+use Rattle.meaning.specs.Rows.{place-words, declaration-words, field-words, tag-words, constraint-words}
 use Rattle.spans.specs.declared.Span.{Span}
 use Rattle.spans.specs.declared.Token.{Token}
 use Rattle.spans.specs.declared.Token.the-variants.{Absent, Identifier, PayloadIdentifier, BodyIdentifier, Integer, Text, SizeModifier}
@@ -98,10 +99,15 @@ InsideToken n (Integer s) = Inside n s
 InsideToken n (Text s) = Inside n s
 InsideToken n (SizeModifier s) = Inside n s
 
--- ---- rows, word by word as in 01, from what was said
+-- ---- rows, from what was said
+abbrev pub nameWords : Name → List ℕ
+nameWords x = x .offset ∷ x .len ∷ []
+
+abbrev pub numberWords : Number → List ℕ
+numberWords x = x .found ∷ x .value ∷ []
+
 unfoldable pub tagWords : ℕ → SourceLocation → SourceLocation → Name → Number → Number → ℕ → List ℕ
-tagWords kind p q id v e inner =
-    kind ∷ p .offset ∷ p .line ∷ p .column ∷ q .offset ∷ q .line ∷ q .column ∷ id .offset ∷ id .len ∷ v .value ∷ e .value ∷ inner ∷ []
+tagWords kind p q id v e inner = tag-words kind (place-words p q) (nameWords id) (v .value) (e .value) inner
 
 abbrev pub constraintKind : Token → ℕ
 constraintKind Absent = 1
@@ -113,16 +119,12 @@ constraintKind (Text s) = 1
 constraintKind (SizeModifier s) = 1
 
 unfoldable pub constraintWords : ℕ → SourceLocation → SourceLocation → Name → Name → Number → List ℕ
-constraintWords kind p q id tag v =
-    kind ∷ p .offset ∷ p .line ∷ p .column ∷ q .offset ∷ q .line ∷ q .column ∷ id .offset ∷ id .len ∷ tag .offset ∷ tag .len ∷ v .value ∷ []
+constraintWords kind p q id tag v = constraint-words kind (place-words p q) (nameWords id) (nameWords tag) (v .value)
 
 unfoldable pub fieldWords : ℕ → SourceLocation → SourceLocation → Name → Name → Name → Number → Number → ℕ → ℕ → ℕ → List ℕ
 fieldWords kind p q a b c na nb first count cond =
-    kind ∷ p .offset ∷ p .line ∷ p .column ∷ q .offset ∷ q .line ∷ q .column
-    ∷ a .offset ∷ a .len ∷ b .offset ∷ b .len ∷ c .offset ∷ c .len
-    ∷ na .found ∷ na .value ∷ nb .found ∷ nb .value ∷ first ∷ count ∷ cond ∷ []
+    field-words kind (place-words p q) (nameWords a) (nameWords b) (nameWords c) (numberWords na) (numberWords nb) first count cond
 
 unfoldable pub declarationWords : ℕ → SourceLocation → SourceLocation → Name → Name → Number → ℕ → ℕ → ℕ → ℕ → List ℕ
 declarationWords kind p q id other width first count cfirst ccount =
-    kind ∷ p .offset ∷ p .line ∷ p .column ∷ q .offset ∷ q .line ∷ q .column
-    ∷ id .offset ∷ id .len ∷ other .offset ∷ other .len ∷ width .found ∷ width .value ∷ first ∷ count ∷ cfirst ∷ ccount ∷ []
+    declaration-words kind (place-words p q) (nameWords id) (nameWords other) (numberWords width) first count cfirst ccount

@@ -4,7 +4,7 @@ use mathlib.Core.Path.{_≡_}
 use mathlib.Core.List.{List, [], _∷_}
 use lib.Dec.{eqb}
 use Rattle.meaning.specs.Choice.{pick}
-use Rattle.meaning.specs.Tables.{Table, Item, int, row, put}
+use Rattle.meaning.specs.Tables.{Table, size, Item, int, row, put}
 use Rattle.walk.specs.declared.Walk.{Walk}
 
 -- the walk's counts with the words of its four tables; comments have a pass of their own
@@ -43,10 +43,10 @@ with-constraint n = record { declarations = n .declarations; fields = n .fields;
 
 abbrev pub emit : Item → State → State
 emit (int p r) s = state (noted p r (s .n)) (s .d) (s .f) (s .t) (s .c)
-emit (row Table.declarations ws) s = state (with-declaration (s .n)) (put 17 (s .n .declarations) ws (s .d)) (s .f) (s .t) (s .c)
-emit (row Table.fields ws) s = state (with-field (s .n)) (s .d) (put 20 (s .n .fields) ws (s .f)) (s .t) (s .c)
-emit (row Table.tags ws) s = state (with-tag (s .n)) (s .d) (s .f) (put 12 (s .n .tags) ws (s .t)) (s .c)
-emit (row Table.constraints ws) s = state (with-constraint (s .n)) (s .d) (s .f) (s .t) (put 12 (s .n .constraints) ws (s .c))
+emit (row Table.declarations ws) s = state (with-declaration (s .n)) (put (size Table.declarations) (s .n .declarations) ws (s .d)) (s .f) (s .t) (s .c)
+emit (row Table.fields ws) s = state (with-field (s .n)) (s .d) (put (size Table.fields) (s .n .fields) ws (s .f)) (s .t) (s .c)
+emit (row Table.tags ws) s = state (with-tag (s .n)) (s .d) (s .f) (put (size Table.tags) (s .n .tags) ws (s .t)) (s .c)
+emit (row Table.constraints ws) s = state (with-constraint (s .n)) (s .d) (s .f) (s .t) (put (size Table.constraints) (s .n .constraints) ws (s .c))
 emit (row Table.comments ws) s = s
 
 unfoldable pub emits : List Item → State → State

@@ -1,4 +1,4 @@
-// Rows from what was said, word by word as in 01.
+// Rows from what was said, word by word.
 ghost use mathlib.Core.Path.{_≡_};
 ghost use Rattle.meaning.specs.Tables.{firstOf};
 ghost use Rattle.walk.specs.Said.{tagWords, constraintWords, fieldWords, declarationWords};
