@@ -12,10 +12,12 @@ use Rattle.meaning.specs.declared.Match.{Match}
 use Rattle.meaning.specs.declared.Match.the-variants.{Missed, Took}
 use Rattle.meaning.specs.Choice.{pick, both}
 use Rattle.meaning.specs.Quoted.{bytes}
-use Rattle.meaning.specs.Peg.{Peg, lit, any-byte, neg, seq, star, prefixb, join, orElse, run, bytewise, hit, taken}
+use Rattle.meaning.specs.Peg.{Peg, lit, any-byte, neg, seq, star, prefixb, run, bytewise, hit, taken}
 use Rattle.meaning.specs.Pdl.{block-comment, line-comment, COMMENT, string}
-use Rattle.grammar.specs.Matching.{Within, Reads}
-use Rattle.grammar.specs.Nodes.{hit-behind}
+use Rattle.grammar.specs.Matching.{Reads}
+use Rattle.grammar.specs.Picks.{pick-false}
+use Rattle.grammar.specs.Hits.{taken-missed, hit-behind, hit-lit, taken-alt}
+use Rattle.grammar.specs.Fits.{within-taken}
 use Rattle.grammar.specs.Steps.{at as part}
 use Rattle.comments.specs.LexLaws.{no-comment, no-string}
 use lib.Dec.{eqb}
@@ -25,25 +27,13 @@ use Rattle.comments.specs.Steps.{Closed, Comment, Past, stride, kind-of}
 pub at-byte : (s : List ℕ) (i : ℕ) → i < length s → drop i s ≡ getD s i 0 ∷ drop (i + 1) s
 at-byte s i h = rw (add-one i) (drop-cons s i 0 h)
 
-miss-none : (m : Match) → hit m ≡ false → taken m ≡ 0
-miss-none (Missed f) e = refl
-miss-none (Took n f) e = cc
-
-taken-fits : (m : Match) (t : List ℕ) → Within m t → taken m ≤ length t
-taken-fits (Missed f) t h = omega arith
-taken-fits (Took n f) t h = h .0
-
 -- ---- where nothing closes a block comment there is none
 closer : (t : List ℕ) → hit (run (bytewise block-comment) t) ≡ true → (m : ℕ) × (prefixb (bytes "*/") (drop m t) ≡ true)
 unfolding block-comment run
-closer t h = (taken (run body t), go (prefixb (42 ∷ 47 ∷ []) (drop (taken (run body t)) t)) (hit-behind (run body t) (λ u. run (lit (42 ∷ 47 ∷ [])) u) t h))
+closer t h = (taken (run body t), sym (hit-lit (42 ∷ 47 ∷ []) (drop (taken (run body t)) t)) ∙ hit-behind (run body t) (λ u. run (lit (42 ∷ 47 ∷ [])) u) t h)
   where
     body : Peg
     body = seq (lit (47 ∷ 42 ∷ [])) (star (seq (neg (lit (42 ∷ 47 ∷ []))) any-byte))
-
-    go : (b : Bool) → hit (pick b (Took 2 0) (Missed 1)) ≡ true → b ≡ true
-    go true e = refl
-    go false e = e
 
 unclosed : (s : List ℕ) (i e : ℕ) → Closed s e → e ≤ i → hit (run (bytewise block-comment) (drop i s)) ≡ false
 unclosed s i e c h = go (hit (run (bytewise block-comment) (drop i s))) refl
@@ -55,35 +45,27 @@ unclosed s i e c h = go (hit (run (bytewise block-comment) (drop i s))) refl
         cc
     go false q = q
 
-taken-joined : (f : ℕ) (m : Match) → taken (join 0 f m) ≡ taken m
-taken-joined f (Missed g) = refl
-taken-joined f (Took n g) = omega arith
-
 line-only : (t : List ℕ) → hit (run (bytewise block-comment) t) ≡ false → taken (run (bytewise COMMENT) t) ≡ taken (run (bytewise line-comment) t)
 unfolding COMMENT run
-line-only t h = go (run (bytewise block-comment) t) h
-  where
-    go : (m : Match) → hit m ≡ false → taken (orElse m (λ u. run (bytewise line-comment) u) t) ≡ taken (run (bytewise line-comment) t)
-    go (Missed f) e = taken-joined f (run (bytewise line-comment) t)
-    go (Took n f) e = cc
+line-only t h = taken-alt (bytewise block-comment) (bytewise line-comment) t ∙ pick-false _ _ _ h
 
 module _ (s : List ℕ) (i : ℕ) (l : i < length s) where
   pub comment-none : (getD s i 0 ≡ 47 → ⊥) → Comment s i 0
   comment-none h =
-      record { is = rw (at-byte s i l) (sym (miss-none (run (bytewise COMMENT) (getD s i 0 ∷ drop (i + 1) s)) (no-comment (getD s i 0) (drop (i + 1) s) (ne-eqb 47 (getD s i 0) (λ e. h (sym e)))))); fits = omega arith }
+      record { is = rw (at-byte s i l) (sym (taken-missed (run (bytewise COMMENT) (getD s i 0 ∷ drop (i + 1) s)) (no-comment (getD s i 0) (drop (i + 1) s) (ne-eqb 47 (getD s i 0) (λ e. h (sym e)))))); fits = omega arith }
 
   -- nothing closes a block comment here
   pub comment-line : (e : ℕ) (m : Match) (n : ℕ) → Closed s e → e ≤ i → Reads line-comment (take (length s - i) (drop i s)) m → n ≡ taken m → Comment s i n
   comment-line e m n c q h d =
       let k = part i s h in
-      record { is = d ∙ ap taken (k .is) ∙ sym (line-only (drop i s) (unclosed s i e c q)); fits = omega (arith, taken-fits m (drop i s) (k .fits), length-drop i s) }
+      record { is = d ∙ ap taken (k .is) ∙ sym (line-only (drop i s) (unclosed s i e c q)); fits = omega (arith, within-taken m (drop i s) (k .fits), length-drop i s) }
 
   pub comment-is : (m : Match) (n : ℕ) → Reads COMMENT (take (length s - i) (drop i s)) m → n ≡ taken m → Comment s i n
-  comment-is m n h e = let k = part i s h in record { is = e ∙ ap taken (k .is); fits = omega (arith, taken-fits m (drop i s) (k .fits), length-drop i s) }
+  comment-is m n h e = let k = part i s h in record { is = e ∙ ap taken (k .is); fits = omega (arith, within-taken m (drop i s) (k .fits), length-drop i s) }
 
   pub past-other : (getD s i 0 ≡ 34 → ⊥) → Past s i 1
   past-other h =
-      record { is = rw (at-byte s i l, miss-none (run (bytewise string) (getD s i 0 ∷ drop (i + 1) s)) (no-string (getD s i 0) (drop (i + 1) s) (ne-eqb 34 (getD s i 0) (λ e. h (sym e))))); fits = omega arith; on = omega arith }
+      record { is = rw (at-byte s i l, taken-missed (run (bytewise string) (getD s i 0 ∷ drop (i + 1) s)) (no-string (getD s i 0) (drop (i + 1) s) (ne-eqb 34 (getD s i 0) (λ e. h (sym e))))); fits = omega arith; on = omega arith }
 
   pub past-open : (m : Match) (n : ℕ) → Reads string (take (length s - i) (drop i s)) m → n ≡ taken m → n ≡ 0 → Past s i 1
   past-open m n h e z =
@@ -93,7 +75,7 @@ module _ (s : List ℕ) (i : ℕ) (l : i < length s) where
   pub past-string : (m : Match) (n : ℕ) → Reads string (take (length s - i) (drop i s)) m → n ≡ taken m → (n ≡ 0 → ⊥) → Past s i n
   past-string m n h e z =
       let k = part i s h in
-      record { is = whole n z ∙ ap stride (e ∙ ap taken (k .is)); fits = omega (arith, taken-fits m (drop i s) (k .fits), length-drop i s); on = omega arith }
+      record { is = whole n z ∙ ap stride (e ∙ ap taken (k .is)); fits = omega (arith, within-taken m (drop i s) (k .fits), length-drop i s); on = omega arith }
     where
       whole : (j : ℕ) → (j ≡ 0 → ⊥) → j ≡ stride j
       whole zero q = absurd (q refl)

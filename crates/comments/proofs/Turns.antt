@@ -14,7 +14,7 @@ use Rattle.meaning.specs.Pdl.{COMMENT, string}
 use Rattle.meaning.specs.Tables.{Item, Table, size, rowsOf, count, put, puts}
 use Rattle.meaning.specs.Walk.{comment-row}
 use Rattle.grammar.specs.Matching.{eats}
-use Rattle.grammar.specs.Nodes.{hit-pos}
+use Rattle.grammar.specs.Stars.{hit-pos}
 use Rattle.comments.specs.Lex.{lex, lexical, comment-count, left, written}
 use Rattle.comments.specs.LexLaws.{lex-none, lex-on, lex-comment, lex-string, comment-eats, string-eats}
 use Rattle.meaning.specs.Places.{at, placeAt}

@@ -15,7 +15,8 @@ use Rattle.meaning.specs.Pdl.{block-comment, line-comment, COMMENT, string}
 use Rattle.meaning.specs.Tables.{Item}
 use Rattle.meaning.specs.Walk.{comment-row}
 use Rattle.grammar.specs.Matching.{eats}
-use Rattle.grammar.specs.Nodes.{no-hit, hit-pos}
+use Rattle.grammar.specs.Hits.{no-hit}
+use Rattle.grammar.specs.Stars.{hit-pos}
 use Rattle.comments.specs.Lex.{token, lex}
 
 -- ---- over the bytes of a token

@@ -18,7 +18,7 @@ use Rattle.meaning.specs.Forest.{nil, tree, Out, missed, took, outcome, leaf, j
 use Rattle.meaning.specs.Pdl.{_~_, repeat, block-comment, line-comment, COMMENT, skip, string, endianness-declaration, declaration, SOI, EOI, file, rules}
 use Rattle.meaning.specs.Tables.{Item}
 use Rattle.meaning.specs.Walk.{comment-row, comments}
-use Rattle.grammar.specs.Fits.{both-1, both-2}
+use Rattle.grammar.specs.Picks.{both-1, both-2}
 use Rattle.grammar.specs.Agree.{same}
 use Rattle.comments.specs.Lex.{lex, lexical}
 use Rattle.comments.specs.LexLaws.{lex-none, lex-plain, lex-comment, lex-string}

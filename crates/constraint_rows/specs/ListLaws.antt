@@ -14,8 +14,9 @@ use Rattle.meaning.specs.Places.{placeAt}
 use Rattle.meaning.specs.Tables.{Table, Item, row}
 use Rattle.meaning.specs.Walk.{each, parse-constraint-list}
 use Rattle.grammar.specs.Matching.{Reads, eats}
-use Rattle.grammar.specs.Nodes.{hit-pos}
+use Rattle.grammar.specs.Stars.{hit-pos}
 use Rattle.grammar.specs.Drawing.{Draws}
+use Rattle.grammar.specs.Bounds.{held, took-inside}
 use Rattle.spans.specs.declared.Constraint.{Constraint}
 use Rattle.spans.specs.declared.ConstraintMatch.{ConstraintMatch}
 use Rattle.spans.specs.Drawn.{drawConstraint}
@@ -25,7 +26,7 @@ use Rattle.walk.specs.State.{State, state, emit, emits, noted, with-constraint,
 use Rattle.walk.specs.StateLaws.{emits-append, noted-counts}
 use Rattle.walk.specs.SaidLaws.{said-token, noted-few, wider-few}
 use Rattle.walk.specs.Said.{said, tokenNumber}
-use Rattle.walk.specs.Insides.{held, constraint-inside, took-inside, InsideConstraint}
+use Rattle.walk.specs.Insides.{constraint-inside, InsideConstraint}
 use Rattle.walk.specs.Turns.{comma, rest, past, Over, past-from, first-item}
 use Rattle.walk.specs.Nexts.{FoundAt, draws-at, found, none-comma, none-item}
 use Rattle.constraint_rows.specs.Constraints.{rowWords, Ready}

@@ -23,13 +23,13 @@ use Rattle.grammar.specs.Matching.{Within, eats}
 use Rattle.grammar.specs.Steps.{at}
 use Rattle.grammar.specs.Drawing.{Draws}
 use Rattle.grammar.specs.Fits.{within-run}
-use Rattle.grammar.specs.Nodes.{hit-pos, nodes-rule}
+use Rattle.grammar.specs.Stars.{hit-pos}
+use Rattle.grammar.specs.Nodes.{nodes-rule, nodes-missed}
+use Rattle.grammar.specs.Bounds.{Held}
 use Rattle.spans.specs.declared.Span.{Span}
 use Rattle.spans.specs.Drawn.{listAt}
 use Rattle.walk.specs.declared.Walk.{Walk}
 use Rattle.walk.specs.State.{Few, WroteConstraints}
-use Rattle.walk.specs.Held.{Held}
-use Rattle.walk.specs.Missed.{nodes-missed}
 use Rattle.walk.specs.Turns.{list-past}
 use Rattle.walk.specs.Listing.{inside, inside-is, inside-hit}
 use Rattle.constraint_rows.specs.Lists.{listNodes, stop}

@@ -7,15 +7,16 @@ use mathlib.Core.Bool.{true, false}
 use lib.ListN.{length, drop, length-drop}
 use lib.Seq.{drop-drop}
 use Rattle.meaning.specs.declared.Match.{Match}
-use Rattle.meaning.specs.declared.Match.the-variants.{Missed, Took}
 use Rattle.meaning.specs.Rules.{Rule, is}
 use Rattle.meaning.specs.Peg.{Peg, seq, rule, after, run, bytewise, hit, taken}
 use Rattle.meaning.specs.Forest.{Forest, nil, tree, _⊕_, nodes}
 use Rattle.meaning.specs.Pdl.{text, skip}
-use Rattle.grammar.specs.Matching.{Within, Steps}
+use Rattle.grammar.specs.Matching.{Steps}
+use Rattle.grammar.specs.Hits.{hit-before, hit-behind, taken-after}
 use Rattle.grammar.specs.Steps.{steps}
-use Rattle.grammar.specs.Nodes.{nil-right, hit-before, hit-behind, taken-after}
-use Rattle.grammar.specs.Drawing.{Draws, Follows, from-start, whole, drawn, then, noted}
+use Rattle.grammar.specs.Nodes.{nil-right}
+use Rattle.grammar.specs.Drawing.{Draws, whole, opened, drawn, then, noted}
+use Rattle.grammar.specs.Bounds.{took-inside}
 use Rattle.lexis.specs.Skips.{skips}
 use Rattle.spans.specs.Parts.{gap, mark}
 
@@ -23,16 +24,8 @@ use Rattle.spans.specs.Parts.{gap, mark}
 abbrev pub listStart : List ℕ → ℕ → ℕ → ℕ
 listStart src at n = at + n + taken (run (bytewise skip) (drop (at + n) src))
 
--- a match at the front is a step from the start
-begins : {g : Peg} {t : List ℕ} {m : Match} {w : ℕ → Forest} → Draws g t m w → Follows (Took 0 0) g t m w
-begins {g} {t} d = record { steps = from-start (d .reads); draws = λ z o. ap (λ (i : ℕ). nodes (bytewise g) i t) (omega arith) ∙ d .draws z o }
-
 pub inside : (src : List ℕ) (at : ℕ) {g : Peg} {m : Match} {w : ℕ → Forest} → at ≤ length src → Draws g (drop at src) m w → at + taken m ≤ length src
-inside src at {g} {m} e d = go m (d .reads .fits)
-  where
-    go : (x : Match) → Within x (drop at src) → at + taken x ≤ length src
-    go (Missed f) z = omega arith
-    go (Took n f) z = let q : n ≤ length (drop at src) = z .0 in omega (arith, length-drop at src)
+inside src at {g} {m} e d = omega (arith, e, took-inside src at e (d .reads))
 
 pub list-within : (src : List ℕ) (at n : ℕ) → at + n ≤ length src → listStart src at n ≤ length src
 list-within src at n e = omega (arith, skips (drop (at + n) src) .fits, length-drop (at + n) src)
@@ -63,7 +56,7 @@ module _ (r : Rule) (c : is Rule.COMMENT r ≡ false) (h l : Peg) (src : List �
   s3 = steps b2 (seq skip (text "}")) t b3 (s2 .fits) refl
 
   all : Draws braced t b3 (λ o. tree r o (taken b3) ((w o ⊕ nil ⊕ nodes (bytewise l) (o + taken b1) (drop (taken b1) t)) ⊕ nil) nil)
-  all = noted r c (whole (then (then (begins d) (then (gap s1) (drawn s2))) (mark s3)))
+  all = noted r c (whole (then (then (opened d) (then (gap s1) (drawn s2))) (mark s3)))
 
   module _ (hits : hit (run (bytewise (rule r (seq (seq h (seq skip l)) (seq skip (text "}"))))) (drop at src)) ≡ true) where
     h3 : hit b3 ≡ true

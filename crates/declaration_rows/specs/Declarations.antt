@@ -12,7 +12,7 @@ use Rattle.meaning.specs.Places.{placeAt}
 use Rattle.meaning.specs.Tables.{Table, Item, count, firstOf}
 use Rattle.meaning.specs.Walk.{parse-toplevel}
 use Rattle.grammar.specs.Matching.{eats}
-use Rattle.grammar.specs.Nodes.{hit-pos}
+use Rattle.grammar.specs.Stars.{hit-pos}
 use Rattle.walk.specs.declared.Walk.{Walk}
 use Rattle.walk.specs.declared.Walked.{Walked}
 use Rattle.walk.specs.State.{state, emits, Few}

@@ -11,6 +11,7 @@ use Rattle.meaning.specs.Forest.{Forest, _⊕_}
 use Rattle.meaning.specs.Pdl.{constraint-list}
 use Rattle.meaning.specs.Places.{placeAt}
 use Rattle.meaning.specs.Tables.{Item}
+use Rattle.grammar.specs.Bounds.{Held, held, held-left, held-right}
 use Rattle.spans.specs.declared.Header.{Header}
 use Rattle.spans.specs.declared.Token.{Token}
 use Rattle.spans.specs.Drawn.{drawToken, onlyIdentifier, onlyInteger, onlyText, listAt, drawHeader}
@@ -19,8 +20,7 @@ use Rattle.walk.specs.State.{State, state, noted, emits, Few}
 use Rattle.walk.specs.StateLaws.{emits-append}
 use Rattle.walk.specs.SaidLaws.{said-token, noted-few}
 use Rattle.walk.specs.Said.{tokenNumber, said, spanName, otherName, Inside, InsideToken}
-use Rattle.walk.specs.Held.{Held}
-use Rattle.walk.specs.Insides.{held, held-left, held-right, token-inside, wider-token}
+use Rattle.walk.specs.Insides.{token-inside, wider-token}
 use Rattle.constraint_rows.specs.Spanned.{spanItems, Spanned, WroteSpan}
 use Rattle.declaration_rows.specs.declared.heads.Headed.{Headed}
 use Rattle.declaration_rows.specs.Kinds.{Kind, HeadOf}

@@ -1,5 +1,4 @@
 pub mod Kinds
-pub mod Choices
 pub mod Keywords
 pub mod Braces
 pub mod Members

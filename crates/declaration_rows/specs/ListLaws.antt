@@ -13,13 +13,13 @@ use Rattle.meaning.specs.Places.{placeAt}
 use Rattle.meaning.specs.Tables.{Table, Item, rowsOf}
 use Rattle.meaning.specs.Walk.{node, kinds, kindIn, parse-declaration, parse-kind, parse-toplevel}
 use Rattle.grammar.specs.Steps.{reads, rest-is}
+use Rattle.grammar.specs.Bounds.{took-inside}
 use Rattle.lexis.specs.Skips.{Skips}
 use Rattle.walk.specs.declared.Walk.{Walk}
 use Rattle.walk.specs.declared.Walked.{Walked}
 use Rattle.walk.specs.State.{State, state, fresh, emits, Few}
 use Rattle.walk.specs.StateLaws.{emits-append}
 use Rattle.walk.specs.SaidLaws.{wider-few}
-use Rattle.walk.specs.Insides.{took-inside}
 use Rattle.walk.specs.Counts.{count-append, Grown, grown}
 use Rattle.declaration_rows.specs.Declarations.{takes-byte, Tallied, Ready, WroteOne}
 use Rattle.declaration_rows.specs.Lists.{rest, last, Reaches, Begun, WroteAll}

@@ -20,12 +20,11 @@ use Rattle.meaning.specs.Tables.{Table, Item, count}
 use Rattle.meaning.specs.Walk.{parse-field-list}
 use Rattle.grammar.specs.Matching.{Steps}
 use Rattle.grammar.specs.Steps.{reads, start, at}
+use Rattle.grammar.specs.Bounds.{Held, took-inside}
 use Rattle.walk.specs.declared.Walk.{Walk}
 use Rattle.walk.specs.declared.Walked.{Walked}
 use Rattle.walk.specs.State.{state, emits, Few}
 use Rattle.walk.specs.SaidLaws.{wider-few}
-use Rattle.walk.specs.Held.{Held}
-use Rattle.walk.specs.Insides.{took-inside}
 use Rattle.walk.specs.Turns.{list-past}
 use Rattle.walk.specs.Ends.{list-ends}
 use Rattle.walk.specs.Listing.{listOf, list-node, list-taken}

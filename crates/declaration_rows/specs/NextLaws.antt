@@ -7,25 +7,20 @@ use mathlib.Core.Bool.{Bool, true, false}
 use lib.ListN.{length, drop}
 use lib.Seq.{drop-drop}
 use Rattle.meaning.specs.declared.Match.{Match}
-use Rattle.meaning.specs.declared.Match.the-variants.{Missed, Took}
-use Rattle.meaning.specs.Choice.{pick}
-use Rattle.meaning.specs.Peg.{seq, star, join, after, run, bytewise, hit, taken}
+use Rattle.meaning.specs.Peg.{seq, join, after, run, bytewise, hit, taken}
 use Rattle.meaning.specs.Forest.{Forest, nil, _⊕_, nodes}
 use Rattle.meaning.specs.Pdl.{skip, declaration}
+use Rattle.grammar.specs.Hits.{hit-join, taken-join}
 use Rattle.grammar.specs.Steps.{reads}
-use Rattle.grammar.specs.Stars.{unroll}
-use Rattle.grammar.specs.Nodes.{taken-join, hit-star, nodes-seq, nodes-star}
+use Rattle.grammar.specs.Stars.{star-none}
+use Rattle.grammar.specs.Nodes.{nodes-seq}
+use Rattle.grammar.specs.Lists.{no-turn, next-turn, next-end}
+use Rattle.grammar.specs.Bounds.{took-inside}
 use Rattle.lexis.specs.Skips.{Skips}
 use Rattle.lexis.specs.Leaves.{skip-none}
 use Rattle.declarations.specs.Files.{declaration-eats}
-use Rattle.walk.specs.Insides.{took-inside}
-use Rattle.walk.specs.Repeats.{star-none, again-taken}
 use Rattle.declaration_rows.specs.Declarations.{takes-byte}
 use Rattle.declaration_rows.specs.Lists.{rest, last, Reaches}
-
-join-hit : (n f : ℕ) (m : Match) → hit (join n f m) ≡ hit m
-join-hit n f (Missed g) = refl
-join-hit n f (Took k g) = refl
 
 module _ (src : List ℕ) (j k : ℕ) (sk : Skips (drop j src) k) where
   abbrev pub next : Match
@@ -39,7 +34,7 @@ module _ (src : List ℕ) (j k : ℕ) (sk : Skips (drop j src) k) where
       ∙ ap (λ (u : List ℕ). join k 0 (run (bytewise declaration) u)) (drop-drop k j src)
 
   turn-hit : hit (run (bytewise (seq skip declaration)) (drop j src)) ≡ hit next
-  turn-hit = ap hit turn-run ∙ join-hit k 0 next
+  turn-hit = ap hit turn-run ∙ hit-join k 0 next
 
   turn-taken : hit next ≡ true → taken (run (bytewise (seq skip declaration)) (drop j src)) ≡ k + taken next
   turn-taken h = ap taken turn-run ∙ taken-join k 0 next h
@@ -52,28 +47,18 @@ module _ (src : List ℕ) (j k : ℕ) (sk : Skips (drop j src) k) where
       ∙ ap (λ (w : Forest). w ⊕ nodes (bytewise declaration) (j + taken (run (bytewise skip) (drop j src))) (drop (taken (run (bytewise skip) (drop j src))) (drop j src))) (skip-none j (drop j src))
       ∙ ap₂ (λ (i : ℕ) (u : List ℕ). nodes (bytewise declaration) (j + i) u) e q
 
-  abbrev following : Forest
-  following = nodes (star (bytewise (seq skip declaration))) (j + taken (run (bytewise (seq skip declaration)) (drop j src))) (drop (taken (run (bytewise (seq skip declaration)) (drop j src))) (drop j src))
-
-  unrolled : rest src j ≡ pick (hit next) (nodes (bytewise (seq skip declaration)) j (drop j src) ⊕ following) nil
-  unfolding rest
-  unrolled =
-      nodes-star (bytewise (seq skip declaration)) j (drop j src) declaration-eats
-      ∙ ap (λ (b : Bool). pick b (nodes (bytewise (seq skip declaration)) j (drop j src) ⊕ following) nil) turn-hit
+  turn-end : hit next ≡ true → j + k + taken next ≡ j + taken (run (bytewise (seq skip declaration)) (drop j src))
+  turn-end h = omega (arith, turn-taken h)
 
   pub no-more : hit next ≡ false → rest src j ≡ nil
-  no-more h = unrolled ∙ ap (λ (b : Bool). pick b (nodes (bytewise (seq skip declaration)) j (drop j src) ⊕ following) nil) h
+  unfolding rest
+  no-more h = no-turn (bytewise (seq skip declaration)) declaration-eats src j (turn-hit ∙ h)
 
   pub one-more : hit next ≡ true → rest src j ≡ nodes (bytewise declaration) (j + k) (drop (j + k) src) ⊕ rest src (j + k + taken next)
   unfolding rest
   one-more h =
-      let n : taken (run (bytewise (seq skip declaration)) (drop j src)) ≡ k + taken next = turn-taken h in
-      let z : j + (k + taken next) ≡ j + k + taken next = omega arith in
-      unrolled
-      ∙ ap (λ (b : Bool). pick b (nodes (bytewise (seq skip declaration)) j (drop j src) ⊕ following) nil) h
-      ∙ ap₂ _⊕_ (turn-nodes h)
-      (ap₂ (λ (o : ℕ) (u : List ℕ). nodes (star (bytewise (seq skip declaration))) o u) (omega (arith, n))
-      (ap (λ (i : ℕ). drop i (drop j src)) n ∙ drop-drop (k + taken next) j src ∙ ap (λ (i : ℕ). drop i src) z))
+      next-turn (bytewise (seq skip declaration)) declaration-eats src j (turn-hit ∙ h) (j + k + taken next) (turn-end h)
+      ∙ ap (λ (w : Forest). w ⊕ rest src (j + k + taken next)) (turn-nodes h)
 
   -- where the last of them ends
   last-none : hit next ≡ false → last src j ≡ j
@@ -82,17 +67,7 @@ module _ (src : List ℕ) (j k : ℕ) (sk : Skips (drop j src) k) where
 
   pub last-more : hit next ≡ true → last src j ≡ last src (j + k + taken next)
   unfolding last
-  last-more h =
-      let n : taken (run (bytewise (seq skip declaration)) (drop j src)) ≡ k + taken next = turn-taken h in
-      let z : j + (k + taken next) ≡ j + k + taken next = omega arith in
-      omega (
-        arith,
-        ap taken (unroll (bytewise (seq skip declaration)) declaration-eats (drop j src))
-            ∙ again-taken (run (bytewise (seq skip declaration)) (drop j src)) (λ u. run (star (bytewise (seq skip declaration))) u) (drop j src) (turn-hit ∙ h) (λ u. hit-star (bytewise (seq skip declaration)) u),
-        n,
-        ap (λ (u : List ℕ). taken (run (star (bytewise (seq skip declaration))) u))
-            (ap (λ (i : ℕ). drop i (drop j src)) n ∙ drop-drop (k + taken next) j src ∙ ap (λ (i : ℕ). drop i src) z),
-      )
+  last-more h = next-end (bytewise (seq skip declaration)) declaration-eats src j (turn-hit ∙ h) (j + k + taken next) (turn-end h)
 
   -- at the end of the source no declaration follows; before it, one does
   pub at-end : j ≤ length src → j + k ≡ length src → hit next ≡ false

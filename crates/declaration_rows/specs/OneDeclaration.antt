@@ -13,6 +13,7 @@ use Rattle.meaning.specs.Places.{placeAt}
 use Rattle.meaning.specs.Tables.{Table, Item, row, count, firstOf}
 use Rattle.meaning.specs.Walk.{node, parse-kind, parse-declaration, parse-toplevel}
 use Rattle.grammar.specs.Steps.{reads, rest-is}
+use Rattle.grammar.specs.Bounds.{Held, nodes-held, held-left, held-right, took-inside}
 use Rattle.lexis.specs.Skips.{Skips}
 use Rattle.spans.specs.declared.Header.{Header}
 use Rattle.spans.specs.Drawn.{drawHeader, onlyIdentifier, onlyInteger, onlyText}
@@ -22,8 +23,6 @@ use Rattle.walk.specs.State.{State, state, emits, Few, PutDeclaration}
 use Rattle.walk.specs.StateLaws.{emits-append}
 use Rattle.walk.specs.SaidLaws.{wider-few}
 use Rattle.walk.specs.Said.{tokenNumber, spanName, otherName, declarationWords}
-use Rattle.walk.specs.Held.{Held, nodes-held}
-use Rattle.walk.specs.Insides.{held-left, held-right, took-inside}
 use Rattle.walk.specs.Ready.{ready}
 use Rattle.walk.specs.Counts.{count-append, Grown, grown}
 use Rattle.constraint_rows.specs.Spanned.{spanItems}

@@ -14,13 +14,12 @@ use Rattle.meaning.specs.Forest.{Forest, nil, tree, nodes}
 use Rattle.meaning.specs.Pdl.{enum-tag, enum-tag-list, field, field-list, constraint, constraint-list}
 use Rattle.meaning.specs.Tables.{Table, Item, int, rowsOf, count}
 use Rattle.meaning.specs.Walk.{parse-enum-tag, parse-field-list}
-use Rattle.grammar.specs.Nodes.{nodes-rule}
+use Rattle.grammar.specs.Nodes.{nodes-rule, nodes-missed}
 use Rattle.spans.specs.declared.Span.{Span}
 use Rattle.spans.specs.declared.Header.{Header}
 use Rattle.spans.specs.Drawn.{listAt, onlyInteger}
 use Rattle.walk.specs.declared.Walk.{Walk}
 use Rattle.walk.specs.declared.Number.{Number}
-use Rattle.walk.specs.Missed.{nodes-missed}
 use Rattle.walk.specs.Listing.{inside, listOf}
 use Rattle.walk.specs.Counts.{count-append, Grown}
 use Rattle.walk.specs.Said.{tokenNumber, said}

@@ -16,10 +16,10 @@ use Rattle.meaning.specs.Walk.{parse-toplevel}
 use Rattle.grammar.specs.Matching.{Reads}
 use Rattle.grammar.specs.Steps.{rest-is, at as at-part}
 use Rattle.grammar.specs.Nodes.{nodes-rule}
+use Rattle.grammar.specs.Bounds.{took-inside}
 use Rattle.walk.specs.declared.Walk.{Walk}
 use Rattle.walk.specs.State.{state, emits}
 use Rattle.walk.specs.SaidLaws.{wider-few}
-use Rattle.walk.specs.Insides.{took-inside}
 use Rattle.declaration_rows.specs.Kinds.{declared}
 use Rattle.declaration_rows.specs.Keywords.{Known, KindAt}
 use Rattle.declaration_rows.specs.Declarations.{Ready, ReadyKind, WroteOne}

@@ -5,14 +5,14 @@ use mathlib.Core.List.{List}
 use Rattle.meaning.specs.Rules.{Rule}
 use Rattle.meaning.specs.Forest.{_⊕_}
 use Rattle.meaning.specs.Pdl.{constraint-list}
+use Rattle.grammar.specs.Bounds.{Held, held-left, held-right}
 use Rattle.spans.specs.declared.Span.{Span}
 use Rattle.spans.specs.declared.Element.the-variants.{Width, Named}
 use Rattle.spans.specs.declared.FieldDesc.{FieldDesc}
 use Rattle.spans.specs.declared.FieldDesc.the-variants.{Checksum, Padding, Size, Count, ElementSize, Body, Payload, FixedScalar, FixedEnum, Reserved, Array, Scalar, Typedef, Group}
 use Rattle.spans.specs.Drawn.{leafAt, onlyName, drawToken, listAt, drawDesc}
-use Rattle.walk.specs.Held.{Held}
 use Rattle.walk.specs.Said.{Inside, InsideToken}
-use Rattle.walk.specs.Insides.{held-left, held-right, token-inside, wider-token}
+use Rattle.walk.specs.Insides.{token-inside, wider-token}
 use Rattle.field_rows.specs.declared.descs.Parts.{Parts}
 use Rattle.field_rows.specs.DescParts.{partsOf}
 

@@ -14,13 +14,14 @@ use Rattle.meaning.specs.Peg.{Peg, seq, alt, opt, rule, after, orElse, run, byt
 use Rattle.meaning.specs.Forest.{Forest, nil, tree, _⊕_, nodes}
 use Rattle.meaning.specs.Walk.{following}
 use Rattle.meaning.specs.Pdl.{text, _~_, skip, constraint, checksum-field, padding-field, size-field, count-field, elementsize-field, body-field, payload-field, fixed-field, reserved-field, array-field, scalar-field, typedef-field, group-field, field-desc, field}
-use Rattle.grammar.specs.Nodes.{hit-join, hit-before, hit-behind, taken-after, nodes-seq, nodes-rule, nodes-alt}
+use Rattle.grammar.specs.Hits.{hit-join, hit-before, hit-behind, taken-after}
+use Rattle.grammar.specs.Nodes.{nodes-seq, nodes-rule, nodes-alt}
 use Rattle.grammar.specs.Drawing.{Draws}
+use Rattle.grammar.specs.Bounds.{Held, nodes-held}
 use Rattle.spans.specs.declared.FieldDesc.{FieldDesc}
 use Rattle.spans.specs.declared.FieldDesc.the-variants.{Checksum, Padding, Size, Count, ElementSize, Body, Payload, FixedScalar, FixedEnum, Reserved, Array, Scalar, Typedef, Group}
 use Rattle.spans.specs.declared.FieldMatch.{FieldMatch}
 use Rattle.spans.specs.Drawn.{drawConstraint, drawDesc, drawField}
-use Rattle.walk.specs.Held.{Held, nodes-held}
 
 -- ---- forests of one tree
 data One : Forest → Type 0 where
@@ -69,7 +70,7 @@ lone-alt {a} {b} p q =
   where
     go : (m : Match) (o : ℕ) (t : List ℕ) → (hit m ≡ true → One (nodes a o t)) → (hit (run b t) ≡ true → One (nodes b o t))
         → hit (orElse m (λ u. run b u) t) ≡ true → One (pick (hit m) (nodes a o t) (nodes b o t))
-    go (Missed f) o t x y h = y (hit-join 0 f (run b t) h)
+    go (Missed f) o t x y h = y (sym (hit-join 0 f (run b t)) ∙ h)
     go (Took n f) o t x y h = x refl
 
 desc-lone : Lone (bytewise field-desc)

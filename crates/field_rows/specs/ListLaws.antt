@@ -16,6 +16,7 @@ use Rattle.meaning.specs.Walk.{parse-field-list}
 use Rattle.grammar.specs.Matching.{Reads}
 use Rattle.grammar.specs.Steps.{rest-is}
 use Rattle.grammar.specs.Drawing.{Draws}
+use Rattle.grammar.specs.Bounds.{took-inside}
 use Rattle.spans.specs.declared.FieldMatch.{FieldMatch}
 use Rattle.spans.specs.Drawn.{drawField}
 use Rattle.walk.specs.declared.Walk.{Walk}
@@ -23,7 +24,6 @@ use Rattle.walk.specs.State.{State, state, emits}
 use Rattle.walk.specs.StateLaws.{emits-append}
 use Rattle.walk.specs.Counts.{grown}
 use Rattle.walk.specs.SaidLaws.{wider-few}
-use Rattle.walk.specs.Insides.{took-inside}
 use Rattle.walk.specs.Turns.{comma, rest, past, Over, past-from, first-item}
 use Rattle.walk.specs.Nexts.{FoundAt, found, none-comma, none-item}
 use Rattle.field_rows.specs.declared.Next.{Next}

@@ -14,7 +14,8 @@ use Rattle.meaning.specs.Forest.{nil}
 use Rattle.meaning.specs.Pdl.{identifier, alpha, constraint-list, checksum-field, padding-field, size-field, count-field, elementsize-field, body-field, payload-field, fixed-field, reserved-field, array-field, scalar-field, typedef-field, group-field, field-desc, field}
 use Rattle.meaning.specs.Tables.{Table, row, count, firstOf}
 use Rattle.grammar.specs.Matching.{eats}
-use Rattle.grammar.specs.Nodes.{hit-pos}
+use Rattle.grammar.specs.Stars.{hit-pos}
+use Rattle.grammar.specs.Bounds.{Held, held, held-right, took-inside}
 use Rattle.spans.specs.declared.Span.{Span}
 use Rattle.spans.specs.declared.Token.{Token}
 use Rattle.spans.specs.declared.Token.the-variants.{Absent}
@@ -28,8 +29,7 @@ use Rattle.walk.specs.StateLaws.{noted-counts}
 use Rattle.walk.specs.Counts.{grown}
 use Rattle.walk.specs.SaidLaws.{wider-few}
 use Rattle.walk.specs.Said.{said, tokenNumber, InsideToken}
-use Rattle.walk.specs.Held.{Held}
-use Rattle.walk.specs.Insides.{held, held-right, constraint-inside, took-inside, InsideConstraint}
+use Rattle.walk.specs.Insides.{constraint-inside, InsideConstraint}
 use Rattle.constraint_rows.specs.Spanned.{spanItems, Spanned, WroteSpan}
 use Rattle.field_rows.specs.declared.descs.Parts.{Parts}
 use Rattle.field_rows.specs.declared.Noted.{Noted}

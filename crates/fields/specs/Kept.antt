@@ -1,8 +1,8 @@
 -- Parts that may be missing: what the token, the span or the constraint that was kept of one draws.
-use Prim.Native.Nat.{ℕ, zero, suc, _+_, _-_, _≤_, _<_}
+use Prim.Native.Nat.{ℕ, _+_, _-_, _<_}
 use native.Mathlib.Omega.{arith}
 use mathlib.Core.Path.{_≡_, refl, ap, ap₂, sym, _∙_}
-use mathlib.Core.List.{List, [], _∷_}
+use mathlib.Core.List.{List}
 use mathlib.Core.Bool.{Bool, true, false}
 use lib.ListN.{length, drop}
 use lib.Dec.{ltb}
@@ -15,9 +15,11 @@ use Rattle.meaning.specs.Peg.{Peg, rule, run, bytewise, join, hit, taken}
 use Rattle.meaning.specs.Forest.{Forest, nil, tree, _⊕_, nodes}
 use Rattle.meaning.specs.Pdl.{alpha, identifier, constraint, constraint-list}
 use Rattle.grammar.specs.Matching.{Steps, eats}
+use Rattle.grammar.specs.Hits.{taken-here, hit-behind}
+use Rattle.grammar.specs.Stars.{hit-pos}
 use Rattle.grammar.specs.Steps.{rest-less}
-use Rattle.grammar.specs.Drawing.{Draws, Follows, from-start}
-use Rattle.grammar.specs.Nodes.{nil-right, hit-behind, hit-pos, nodes-rule}
+use Rattle.grammar.specs.Drawing.{Follows}
+use Rattle.grammar.specs.Nodes.{nil-right, nodes-rule}
 use Rattle.spans.specs.declared.Span.{Span}
 use Rattle.spans.specs.declared.Token.{Token}
 use Rattle.spans.specs.declared.Token.the-variants.{Absent}
@@ -25,18 +27,9 @@ use Rattle.spans.specs.declared.Constraint.{Constraint}
 use Rattle.spans.specs.Spans.{spanOf, absentSpan}
 use Rattle.spans.specs.Drawn.{drawToken, listAt, drawConstraint}
 
--- what a rule draws of a text, as a step from its start
-pub opened : {g : Peg} {t : List ℕ} {r : Match} {w : ℕ → Forest} → Draws g t r w → Follows (Took 0 0) g t r w
-opened {g} {t} {r} {w} d =
-    record { steps = from-start (d .reads); draws = λ h o. ap (λ (i : ℕ). nodes (bytewise g) i t) (omega arith) ∙ d .draws h o }
-
 -- a match that is tried again from the same place takes as much
 pub same-taken : (f : ℕ) (m r : Match) → r ≡ join 0 f m → taken m ≡ taken r
-same-taken f m r e = go m ∙ ap taken (sym e)
-  where
-    go : (x : Match) → taken x ≡ taken (join 0 f x)
-    go (Missed g) = refl
-    go (Took k g) = omega arith
+same-taken f m r e = sym (taken-here f m) ∙ ap taken (sym e)
 
 -- ---- a token
 pub token-kept : (b : Bool) (o : ℕ) (k : Token) → pick b (drawToken o k) nil ≡ drawToken o (pick b k Absent)

@@ -1,16 +1,16 @@
 -- `run` is `eval` without its forest, for every expression and text.
-use Prim.Native.Nat.{ℕ, zero, suc, _+_, max}
-use mathlib.Core.Path.{_≡_, refl, ap, sym, _∙_}
-use mathlib.Core.List.{List, [], _∷_}
-use mathlib.Core.Bool.{Bool, true, false}
+use Prim.Native.Nat.{ℕ, zero, suc, _+_}
+use mathlib.Core.Path.{_≡_, refl, ap, _∙_}
+use mathlib.Core.List.{List}
+use mathlib.Core.Bool.{true}
 use lib.ListN.{length, drop}
 use Rattle.meaning.specs.declared.Match.{Match}
 use Rattle.meaning.specs.declared.Match.the-variants.{Missed, Took}
 use Rattle.meaning.specs.Choice.{pick}
 use Rattle.meaning.specs.Utf8.{character}
 use Rattle.meaning.specs.Rules.{Rule}
-use Rattle.meaning.specs.Peg.{Peg, lit, range, any, any-byte, end, neg, seq, alt, star, opt, quiet, rule, prefixb, lift, join, after, orElse, maybe, turned, hushed, again, many, oneByte, oneLetter, atEnd, within, run}
-use Rattle.meaning.specs.Forest.{Forest, nil, tree, Out, missed, took, outcome, leaf, joinO, afterO, orElseO, maybeO, turnedO, hushedO, againO, noteO, manyO, eval}
+use Rattle.meaning.specs.Peg.{Peg, lit, range, any, any-byte, end, neg, seq, alt, star, opt, quiet, rule, prefixb, join, after, orElse, maybe, turned, hushed, again, many, oneByte, oneLetter, atEnd, within, run}
+use Rattle.meaning.specs.Forest.{Forest, nil, Out, missed, took, outcome, leaf, joinO, afterO, orElseO, maybeO, turnedO, hushedO, againO, noteO, manyO, eval}
 
 leaf-is : (m : Match) → outcome (leaf m) ≡ m
 leaf-is (Missed f) = refl

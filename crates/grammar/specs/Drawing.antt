@@ -1,21 +1,23 @@
 -- Matches with the nodes that they leave: what a rule's straight-line code has at hand draws the rule's forest.
-use Prim.Native.Nat.{ℕ, zero, suc, _+_, _-_, _≤_, _<_, max}
+use Prim.Native.Nat.{ℕ, _+_, _-_, max}
 use native.Mathlib.Omega.{arith}
-use mathlib.Core.Path.{_≡_, refl, ap, ap₂, subst, sym, _∙_}
-use mathlib.Core.List.{List, [], _∷_}
-use mathlib.Core.Bool.{Bool, true, false}
-use lib.ListN.{length, drop}
+use mathlib.Core.Path.{_≡_, refl, ap, ap₂, sym, _∙_}
+use mathlib.Core.List.{List}
+use mathlib.Core.Bool.{true, false}
+use lib.ListN.{drop}
 use lib.Seq.{drop-drop}
 use Rattle.meaning.specs.declared.Match.{Match}
 use Rattle.meaning.specs.declared.Match.the-variants.{Missed, Took}
 use Rattle.meaning.specs.Choice.{pick}
 use Rattle.meaning.specs.Rules.{Rule, is}
-use Rattle.meaning.specs.Peg.{Peg, seq, alt, star, opt, rule, lift, join, after, orElse, run, bytewise, hit, taken}
+use Rattle.meaning.specs.Peg.{Peg, seq, alt, opt, rule, lift, join, after, orElse, run, bytewise, hit, taken}
 use Rattle.meaning.specs.Forest.{Forest, nil, tree, _⊕_, nodes}
-use Rattle.grammar.specs.Matching.{Within, Reads, Steps, Tries, stay}
-use Rattle.grammar.specs.Steps.{chain, link, start, named, marked, option, choice, tried, join-0}
+use Rattle.grammar.specs.Matching.{Within, Reads, Steps, stay}
+use Rattle.grammar.specs.Picks.{pick-false, pick-same}
+use Rattle.grammar.specs.Hits.{hit-join, hit-after, hit-before, hit-behind, taken-after}
+use Rattle.grammar.specs.Steps.{link, start, named, marked, option, choice, tried, join-0}
 use Rattle.grammar.specs.Fits.{join-join}
-use Rattle.grammar.specs.Nodes.{no-hit, hit-before, hit-behind, taken-after, nodes-seq, nodes-rule, nodes-opt, nodes-alt}
+use Rattle.grammar.specs.Nodes.{nodes-seq, nodes-rule, nodes-opt, nodes-alt}
 
 -- the match r of g leaves the nodes w, wherever the text stands
 pub record Draws (g : Peg) (t : List ℕ) (r : Match) (w : ℕ → Forest) : Type 0 where
@@ -34,6 +36,11 @@ from-start {g} {t} {r} h = record { is = h .is ∙ join-0 (run (bytewise g) t); 
 pub whole : {g : Peg} {t : List ℕ} {r : Match} {w : ℕ → Forest} → Follows (Took 0 0) g t r w → Draws g t r w
 whole {g} {t} {r} {w} f =
     record { reads = start (f .steps); draws = λ h o. ap (λ (i : ℕ). nodes (bytewise g) i t) (omega arith) ∙ f .draws h o }
+
+-- what is drawn of a text, as a step from its start
+pub opened : {g : Peg} {t : List ℕ} {r : Match} {w : ℕ → Forest} → Draws g t r w → Follows (Took 0 0) g t r w
+opened {g} {t} {r} {w} d =
+    record { steps = from-start (d .reads); draws = λ h o. ap (λ (i : ℕ). nodes (bytewise g) i t) (omega arith) ∙ d .draws h o }
 
 -- ---- single parts
 pub drawn : {m : Match} {g : Peg} {t : List ℕ} {r : Match} → Steps m g t r → Follows m g t r (λ o. nodes (bytewise g) (o + taken m) (drop (taken m) t))
@@ -103,21 +110,9 @@ node {m} {g} {t} {r} {w} k c f =
     }
 
 -- ---- a part that may be missing
-after-hit : (m : Match) (p : List ℕ → Match) (t : List ℕ) → hit m ≡ true → hit (after m p t) ≡ hit (p (drop (taken m) t))
-after-hit (Missed f) p t e = no-hit f e
-after-hit (Took n f) p t e = go (p (drop n t))
-  where
-    go : (x : Match) → hit (join n f x) ≡ hit x
-    go (Missed g) = refl
-    go (Took k g) = refl
-
 stay-hit : (m x : Match) → hit (stay m x) ≡ true → hit m ≡ true
 stay-hit (Missed f) x e = e
 stay-hit (Took n f) x e = refl
-
-pick-by : (b c : Bool) (v w z : Forest) → b ≡ c → (c ≡ true → v ≡ w) → pick b v z ≡ pick c w z
-pick-by b true v w z e h = rw e (h refl)
-pick-by b false v w z e h = rw e
 
 pub maybe : {m : Match} {g : Peg} {t : List ℕ} {x r : Match} {w : ℕ → Forest} → Within m t → Follows m g t x w → r ≡ stay m x → Follows m (opt g) t r (λ o. pick (hit x) (w o) nil)
 maybe {m} {g} {t} {x} {r} {w} i f e =
@@ -125,8 +120,8 @@ maybe {m} {g} {t} {x} {r} {w} i f e =
       steps = option i (f .steps) e;
       draws = λ h o.
           nodes-opt (bytewise g) (o + taken m) (drop (taken m) t)
-          ∙ pick-by _ _ _ _ nil
-          (sym (after-hit m (λ u. run (bytewise g) u) t (stay-hit m x (ap hit (sym e) ∙ h))) ∙ ap hit (sym (f .steps .is)))
+          ∙ pick-same _ _ _ _ nil
+          (sym (hit-after m (λ u. run (bytewise g) u) t (stay-hit m x (ap hit (sym e) ∙ h))) ∙ ap hit (sym (f .steps .is)))
           (λ z. f .draws z o);
     }
 
@@ -137,16 +132,8 @@ first {a} {b} {t} {x} {v} n f d e =
       reads = choice (d .reads) (record { is = rw e; fits = d .reads .fits });
       draws = λ h o.
           nodes-alt (bytewise a) (bytewise b) o t
-          ∙ pick-by _ true _ _ (nodes (bytewise b) o t) (ap hit (sym (d .reads .is) ∙ e)) (λ z. d .draws h o);
+          ∙ pick-same _ true _ _ (nodes (bytewise b) o t) (ap hit (sym (d .reads .is) ∙ e)) (λ z. d .draws h o);
     }
-
-pick-not : (b : Bool) (v w : Forest) → b ≡ false → pick b v w ≡ w
-pick-not true v w e = absurd (let z : _≡_ {A = ℕ} 0 1 = cc in omega arith)
-pick-not false v w e = refl
-
-hit-join : (n f : ℕ) (x : Match) → hit (join n f x) ≡ hit x
-hit-join n f (Missed g) = refl
-hit-join n f (Took k g) = refl
 
 pub second : {a b : Peg} {t : List ℕ} {x y r : Match} {w : ℕ → Forest} (f : ℕ) → Reads a t x → x ≡ Missed f → Draws b t y w → r ≡ join 0 f y → Draws (alt a b) t r w
 second {a} {b} {t} {x} {y} {r} {w} f d e k q =
@@ -154,7 +141,7 @@ second {a} {b} {t} {x} {y} {r} {w} f d e k q =
       reads = choice d (tried f (d .fits) e (k .reads) q);
       draws = λ h o.
           nodes-alt (bytewise a) (bytewise b) o t
-          ∙ pick-not _ _ _ (ap hit (sym (d .is) ∙ e))
+          ∙ pick-false _ _ _ (ap hit (sym (d .is) ∙ e))
           ∙ k .draws (sym (hit-join 0 f y) ∙ ap hit (sym q) ∙ h) o;
     }
 
@@ -182,12 +169,12 @@ one {m} {a} {b} {t} {x} {v} k g f e =
       steps = record { is = e ∙ alt-hit m (λ u. run (bytewise a) u) (λ u. run (bytewise b) u) t k g (sym (f .steps .is) ∙ e); fits = f .steps .fits };
       draws = λ h o.
           nodes-alt (bytewise a) (bytewise b) (o + taken m) (drop (taken m) t)
-          ∙ pick-by _ true _ _ _ (part-hit m a t x (f .steps) h) (λ z. f .draws h o);
+          ∙ pick-same _ true _ _ _ (part-hit m a t x (f .steps) h) (λ z. f .draws h o);
     }
 
 -- a missed where m had come, and b goes on from there
 missed-part : (m : Match) (p : List ℕ → Match) (t : List ℕ) (g : ℕ) → hit m ≡ true → after m p t ≡ Missed g → hit (p (drop (taken m) t)) ≡ false
-missed-part m p t g h e = sym (after-hit m p t h) ∙ ap hit e
+missed-part m p t g h e = sym (hit-after m p t h) ∙ ap hit e
 
 stay-taken : (m : Match) (g : ℕ) → taken (stay m (Missed g)) ≡ taken m
 stay-taken (Missed f) g = refl
@@ -205,7 +192,7 @@ other {m} {a} {b} {t} {x} {y} {r} {w} g s e q f =
           };
       draws = λ h o.
           nodes-alt (bytewise a) (bytewise b) (o + taken m) (drop (taken m) t)
-          ∙ pick-not _ _ _ (missed-part m (λ u. run (bytewise a) u) t g (stay-hit m x (ap hit (sym q) ∙ hit-before y (λ u. run (bytewise b) u) t (ap hit (sym (f .steps .is)) ∙ h))) (sym (s .is) ∙ e))
+          ∙ pick-false _ _ _ (missed-part m (λ u. run (bytewise a) u) t g (stay-hit m x (ap hit (sym q) ∙ hit-before y (λ u. run (bytewise b) u) t (ap hit (sym (f .steps .is)) ∙ h))) (sym (s .is) ∙ e))
           ∙ ap (λ (i : ℕ). nodes (bytewise b) (o + i) (drop i t)) j
           ∙ f .draws h o;
     }

@@ -8,18 +8,11 @@ use lib.ListN.{length, drop, length-drop}
 use lib.Dec.{eqb}
 use Rattle.meaning.specs.declared.Match.{Match}
 use Rattle.meaning.specs.declared.Match.the-variants.{Missed, Took}
-use Rattle.meaning.specs.Choice.{pick, both}
+use Rattle.meaning.specs.Choice.{pick}
 use Rattle.meaning.specs.Utf8.{character, formed, forms, has, Octet, holds}
-use Rattle.meaning.specs.Peg.{Peg, lit, range, any, any-byte, end, neg, seq, alt, star, opt, quiet, rule, prefixb, lift, join, after, orElse, maybe, turned, hushed, again, many, oneByte, oneLetter, atEnd, within, run}
+use Rattle.meaning.specs.Peg.{Peg, lit, range, any, any-byte, end, neg, seq, alt, star, opt, quiet, rule, prefixb, lift, join, after, orElse, maybe, turned, hushed, again, many, oneByte, oneLetter, atEnd, within, run, taken}
 use Rattle.grammar.specs.Matching.{Within}
-
-pub both-1 : (a b : Bool) → both a b ≡ true → a ≡ true
-both-1 true b e = refl
-both-1 false b e = e
-
-pub both-2 : (a b : Bool) → both a b ≡ true → b ≡ true
-both-2 true b e = e
-both-2 false b e = cc
+use Rattle.grammar.specs.Picks.{both-2}
 
 -- ---- marks
 pub lift-pos : (n g : ℕ) → (g ≡ 0 → ⊥) → lift n g ≡ n + g
@@ -56,6 +49,10 @@ join-join n f k g (Missed h) = ap Missed (marks n f k g h)
 join-join n f k g (Took j h) = ap₂ Took (omega arith) (marks n f k g h)
 
 -- ---- what is taken is at most the text
+pub within-taken : (m : Match) (t : List ℕ) → Within m t → taken m ≤ length t
+within-taken (Missed f) t h = omega arith
+within-taken (Took n f) t h = h .0
+
 pub within-join : (n f : ℕ) (m : Match) (t : List ℕ) → n ≤ length t → f ≤ suc (length t) → Within m (drop n t) → Within (join n f m) t
 within-join n f (Missed g) t hn hf h = omega (arith, lift-le n g, length-drop n t)
 within-join n f (Took k g) t hn hf h = omega (arith, lift-le n g, length-drop n t)

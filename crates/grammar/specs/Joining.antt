@@ -1,5 +1,5 @@
 -- One byte for ANY, or one character: in `(!x ~ ANY)*` with x ASCII it is the same on whole characters.
-use Prim.Native.Nat.{ℕ, zero, suc, _+_, _≤_, _<_, max}
+use Prim.Native.Nat.{ℕ, zero, suc, _+_, _≤_, max}
 use native.Mathlib.Omega.{arith}
 use mathlib.Core.Path.{_≡_, refl, ap, subst, sym, _∙_}
 use mathlib.Core.List.{List, [], _∷_}
@@ -11,11 +11,12 @@ use lib.Dec.{leb, eqb}
 use Rattle.meaning.specs.declared.Match.{Match}
 use Rattle.meaning.specs.declared.Match.the-variants.{Missed, Took}
 use Rattle.meaning.specs.Choice.{pick, both}
-use Rattle.meaning.specs.Utf8.{character, formed, forms, has, holds, Octet, ascii-form, wide-forms}
+use Rattle.meaning.specs.Utf8.{character, formed, has, holds, Octet, ascii-form, wide-forms}
 use Rattle.meaning.specs.Rules.{Rule}
-use Rattle.meaning.specs.Peg.{Peg, lit, range, any, any-byte, end, neg, seq, alt, star, opt, quiet, rule, prefixb, lift, oneByte, oneLetter, atEnd, within}
-use Rattle.meaning.specs.Forest.{Forest, nil, tree, Out, missed, took, leaf, joinO, afterO, orElseO, maybeO, turnedO, hushedO, againO, noteO, manyO, eval, _⊕_}
-use Rattle.grammar.specs.Fits.{lift-0, join-join, both-1, both-2}
+use Rattle.meaning.specs.Peg.{Peg, lit, any, any-byte, neg, seq, star, prefixb, lift, oneByte, oneLetter, atEnd, within}
+use Rattle.meaning.specs.Forest.{Forest, nil, Out, missed, took, leaf, joinO, afterO, orElseO, maybeO, turnedO, hushedO, againO, noteO, manyO, eval}
+use Rattle.grammar.specs.Picks.{both-1, both-2}
+use Rattle.grammar.specs.Fits.{lift-0, join-join}
 use Rattle.grammar.specs.Stars.{unrollO}
 
 -- ---- texts made of whole characters

@@ -1,4 +1,6 @@
 pub mod Matching
+pub mod Picks
+pub mod Hits
 pub mod Fits
 pub mod Agree
 pub mod Stars
@@ -8,3 +10,7 @@ pub mod Steps
 pub mod Nodes
 pub mod Drawing
 pub mod Lists
+pub mod Bounds
+pub mod Order
+pub mod Openings
+pub mod Choices

@@ -1,20 +1,18 @@
 -- The nodes that a match leaves, part by part: each law once for every expression.
-use Prim.Native.Nat.{ℕ, zero, suc, _+_, _-_, _≤_, _<_, max}
-use native.Mathlib.Omega.{arith}
-use mathlib.Core.Path.{_≡_, refl, ap, ap₂, subst, sym, _∙_}
-use mathlib.Core.List.{List, [], _∷_}
+use Prim.Native.Nat.{ℕ, _+_}
+use mathlib.Core.Path.{_≡_, refl, ap, _∙_}
+use mathlib.Core.List.{List}
 use mathlib.Core.Bool.{Bool, true, false}
-use lib.ListN.{length, drop}
-use lib.Seq.{drop-drop}
+use lib.ListN.{drop}
 use Rattle.meaning.specs.declared.Match.{Match}
-use Rattle.meaning.specs.declared.Match.the-variants.{Missed, Took}
 use Rattle.meaning.specs.Choice.{pick}
 use Rattle.meaning.specs.Rules.{Rule, is}
-use Rattle.meaning.specs.Peg.{Peg, seq, alt, star, opt, quiet, rule, lift, join, after, orElse, maybe, again, run, bytewise, hit, taken}
-use Rattle.meaning.specs.Forest.{Forest, nil, tree, _⊕_, Out, missed, took, outcome, joinO, afterO, orElseO, maybeO, againO, noteO, manyO, eval, forest, clean, nodes}
+use Rattle.meaning.specs.Peg.{Peg, seq, alt, star, opt, rule, run, hit, taken}
+use Rattle.meaning.specs.Forest.{Forest, nil, tree, _⊕_, Out, missed, took, outcome, joinO, afterO, orElseO, maybeO, againO, noteO, eval, forest, clean, nodes}
 use Rattle.grammar.specs.Matching.{eats}
+use Rattle.grammar.specs.Hits.{no-hit, no-miss, hit-star}
 use Rattle.grammar.specs.Agree.{same}
-use Rattle.grammar.specs.Stars.{Pos, eats-pos, unrollO}
+use Rattle.grammar.specs.Stars.{unrollO}
 
 -- ---- forests
 pub nil-right : (w : Forest) → w ⊕ nil ≡ w
@@ -34,40 +32,6 @@ clean-⊕ (tree r s l k more) w = go (is Rule.COMMENT r) (clean-⊕ more w)
     go true e = e
     go false e = ap (tree r s l (clean k)) e
 
--- ---- hits
-pub no-hit : {A : Type 0} (f : ℕ) → hit (Missed f) ≡ true → A
-no-hit f e = absurd (let z : _≡_ {A = ℕ} 0 1 = cc in omega arith)
-
-pub hit-took : (m : Match) (n f : ℕ) → m ≡ Took n f → hit m ≡ true
-hit-took m n f e = rw e
-
-pub hit-join : (n f : ℕ) (m : Match) → hit (join n f m) ≡ true → hit m ≡ true
-hit-join n f (Missed g) e = e
-hit-join n f (Took k g) e = refl
-
-pub taken-join : (n f : ℕ) (m : Match) → hit m ≡ true → taken (join n f m) ≡ n + taken m
-taken-join n f (Missed g) e = no-hit g e
-taken-join n f (Took k g) e = refl
-
-pub hit-before : (m : Match) (p : List ℕ → Match) (t : List ℕ) → hit (after m p t) ≡ true → hit m ≡ true
-hit-before (Missed f) p t e = e
-hit-before (Took n f) p t e = refl
-
-pub hit-behind : (m : Match) (p : List ℕ → Match) (t : List ℕ) → hit (after m p t) ≡ true → hit (p (drop (taken m) t)) ≡ true
-hit-behind (Missed f) p t e = no-hit f e
-hit-behind (Took n f) p t e = hit-join n f (p (drop n t)) e
-
-pub taken-after : (m : Match) (p : List ℕ → Match) (t : List ℕ) → hit (after m p t) ≡ true → taken (after m p t) ≡ taken m + taken (p (drop (taken m) t))
-taken-after (Missed f) p t e = no-hit f e
-taken-after (Took n f) p t e = taken-join n f (p (drop n t)) (hit-join n f (p (drop n t)) e)
-
-pub hit-pos : (g : Peg) (t : List ℕ) → eats g ≡ true → hit (run g t) ≡ true → 0 < taken (run g t)
-hit-pos g t e h = go (run g t) (eats-pos g e t) h
-  where
-    go : (m : Match) → Pos m → hit m ≡ true → 0 < taken m
-    go (Missed f) p h = no-hit f h
-    go (Took n f) p h = p
-
 -- ---- what each kind of expression leaves
 clean-join : (n f : ℕ) (w : Forest) (x : Out) → hit (outcome x) ≡ true → clean (forest (joinO n f w x)) ≡ clean w ⊕ clean (forest x)
 clean-join n f w (missed g) e = no-hit g e
@@ -80,6 +44,15 @@ clean-after (took n f w) q o t e h = clean-join n f w (q (o + n) (drop n t)) h
 
 hit-same : (g : Peg) (o : ℕ) (t : List ℕ) → hit (run g t) ≡ true → hit (outcome (eval g o t)) ≡ true
 hit-same g o t h = ap hit (same g o t) ∙ h
+
+-- nothing, where it misses
+pub nodes-missed : (g : Peg) (o : ℕ) (t : List ℕ) → hit (run g t) ≡ false → nodes g o t ≡ nil
+unfolding nodes
+nodes-missed g o t h = go (eval g o t) (ap hit (same g o t) ∙ h)
+  where
+    go : (x : Out) → hit (outcome x) ≡ false → clean (forest x) ≡ nil
+    go (missed f) e = refl
+    go (took n f w) e = no-miss n f e
 
 pub nodes-seq : (a b : Peg) (o : ℕ) (t : List ℕ) → hit (run a t) ≡ true → hit (run b (drop (taken (run a t)) t)) ≡ true
     → nodes (seq a b) o t ≡ nodes a o t ⊕ nodes b (o + taken (run a t)) (drop (taken (run a t)) t)
@@ -126,23 +99,6 @@ clean-again : (x : Out) (q : ℕ → List ℕ → Out) (o : ℕ) (t : List ℕ) 
     → clean (forest (againO x q o t)) ≡ pick (hit (outcome x)) (clean (forest x) ⊕ clean (forest (q (o + taken (outcome x)) (drop (taken (outcome x)) t)))) nil
 clean-again (missed f) q o t h = refl
 clean-again (took n f w) q o t h = clean-join n f w (q (o + n) (drop n t)) (h (o + n) (drop n t))
-
-hit-many : (k : ℕ) (p : ℕ → List ℕ → Out) (o : ℕ) (t : List ℕ) → hit (outcome (manyO k p o t)) ≡ true
-unfolding manyO
-hit-many zero p o t = refl
-hit-many (suc k) p o t = go (p o t) (λ n. hit-many k p (o + n) (drop n t))
-  where
-    join-hit : (n f : ℕ) (w : Forest) (y : Out) → hit (outcome y) ≡ true → hit (outcome (joinO n f w y)) ≡ true
-    join-hit n f w (missed g) h = h
-    join-hit n f w (took k g v) h = refl
-
-    go : (x : Out) → ((n : ℕ) → hit (outcome (manyO k p (o + n) (drop n t))) ≡ true) → hit (outcome (againO x (λ i u. manyO k p i u) o t)) ≡ true
-    go (missed f) h = refl
-    go (took n f w) h = join-hit n f w (manyO k p (o + n) (drop n t)) (h n)
-
-pub hit-star : (p : Peg) (t : List ℕ) → hit (run (star p) t) ≡ true
-unfolding eval
-hit-star p t = ap hit (sym (same (star p) 0 t)) ∙ hit-many (suc (length t)) (λ i u. eval p i u) 0 t
 
 pub nodes-star : (p : Peg) (o : ℕ) (t : List ℕ) → eats p ≡ true
     → nodes (star p) o t ≡ pick (hit (run p t)) (nodes p o t ⊕ nodes (star p) (o + taken (run p t)) (drop (taken (run p t)) t)) nil

@@ -1,18 +1,21 @@
--- A star, turn by turn: where each turn takes a byte, the fuel is never seen again.
-use Prim.Native.Nat.{ℕ, zero, suc, _+_, _≤_, _<_, max}
+-- Expressions that take a byte, and a star of one, turn by turn: the fuel is never seen again.
+use Prim.Native.Nat.{ℕ, zero, suc, _+_, _≤_, _<_}
 use native.Mathlib.Omega.{arith}
-use mathlib.Core.Path.{_≡_, refl, ap, sym, _∙_}
+use mathlib.Core.Path.{_≡_, refl, ap, subst, sym, _∙_}
 use mathlib.Core.List.{List, [], _∷_}
 use mathlib.Core.Bool.{Bool, true, false}
 use lib.ListN.{length, drop, length-drop}
+use lib.Seq.{drop-drop}
 use Rattle.meaning.specs.declared.Match.{Match}
 use Rattle.meaning.specs.declared.Match.the-variants.{Missed, Took}
-use Rattle.meaning.specs.Choice.{pick, both}
+use Rattle.meaning.specs.Choice.{pick}
 use Rattle.meaning.specs.Utf8.{character}
-use Rattle.meaning.specs.Peg.{Peg, lit, range, any, any-byte, end, neg, seq, alt, star, opt, quiet, rule, prefixb, join, after, orElse, hushed, again, oneByte, oneLetter, within, run}
-use Rattle.meaning.specs.Forest.{Forest, Out, missed, took, outcome, joinO, againO, manyO, eval}
+use Rattle.meaning.specs.Peg.{Peg, lit, range, any, any-byte, end, neg, seq, alt, star, opt, quiet, rule, prefixb, join, after, orElse, hushed, again, oneByte, oneLetter, within, run, hit, taken}
+use Rattle.meaning.specs.Forest.{Out, missed, took, outcome, joinO, againO, manyO, eval}
 use Rattle.grammar.specs.Matching.{Within, eats}
-use Rattle.grammar.specs.Fits.{within-run, both-1, both-2}
+use Rattle.grammar.specs.Picks.{both-1, both-2}
+use Rattle.grammar.specs.Hits.{no-hit, no-miss, taken-again, hit-star}
+use Rattle.grammar.specs.Fits.{within-run, within-taken}
 use Rattle.grammar.specs.Agree.{same, again-is}
 
 -- ---- a match that takes a byte
@@ -76,6 +79,13 @@ eats-pos (opt p) e t = absurd (let z : _≡_ {A = ℕ} 0 1 = cc in omega arith)
 eats-pos (quiet p) e t = pos-hushed (run p t) (eats-pos p e t)
 eats-pos (rule r p) e t = eats-pos p e t
 
+pub hit-pos : (g : Peg) (t : List ℕ) → eats g ≡ true → hit (run g t) ≡ true → 0 < taken (run g t)
+hit-pos g t e h = go (run g t) (eats-pos g e t) h
+  where
+    go : (m : Match) → Pos m → hit m ≡ true → 0 < taken m
+    go (Missed f) p h = no-hit f h
+    go (Took n f) p h = p
+
 -- ---- a star, turn by turn
 module _ (p : ℕ → List ℕ → Out) (inside : (i : ℕ) (u : List ℕ) → Within (outcome (p i u)) u) (pos : (i : ℕ) (u : List ℕ) → Pos (outcome (p i u))) where
   fuelO : (j k : ℕ) (o : ℕ) (t : List ℕ) → length t < j → length t < k → manyO j p o t ≡ manyO k p o t
@@ -108,3 +118,41 @@ unroll p e t =
     sym (same (star p) 0 t) ∙ ap outcome (unrollO p e 0 t)
     ∙ again-is (eval p 0 t) (λ i u. eval (star p) i u) (λ u. run (star p) u) 0 t (λ i u. same (star p) i u)
     ∙ ap (λ (m : Match). again m (λ u. run (star p) u) t) (same p 0 t)
+
+-- ---- how much a star takes
+-- nothing, where its expression misses
+pub star-none : (p : Peg) → eats p ≡ true → (t : List ℕ) → hit (run p t) ≡ false → taken (run (star p) t) ≡ 0
+star-none p e t h = ap taken (unroll p e t) ∙ go (run p t) h
+  where
+    go : (m : Match) → hit m ≡ false → taken (again m (λ u. run (star p) u) t) ≡ 0
+    go (Missed f) q = refl
+    go (Took n f) q = no-miss n f q
+
+-- and else a turn and what follows it
+pub star-some : (p : Peg) → eats p ≡ true → (t : List ℕ) → hit (run p t) ≡ true
+    → taken (run (star p) t) ≡ taken (run p t) + taken (run (star p) (drop (taken (run p t)) t))
+star-some p e t h = ap taken (unroll p e t) ∙ taken-again (run p t) (λ u. run (star p) u) t h (λ u. hit-star p u)
+
+-- it ends where its expression misses; and what each turn keeps holds there, if it holds at the start
+module _ (p : Peg) (some : eats p ≡ true) (Q : List ℕ → Type 0) (keeps : (u : List ℕ) → hit (run p u) ≡ true → Q u → Q (drop (taken (run p u)) u)) where
+  abbrev Ends : List ℕ → Type 0
+  Ends u = Q u × (hit (run p u) ≡ false)
+
+  within-fuel : (k : ℕ) (t : List ℕ) → length t < k → Q t → Ends (drop (taken (run (star p) t)) t)
+  within-fuel zero t l q = absurd (omega arith)
+  within-fuel (suc k) t l q =
+      go (hit (run p t)) refl
+      (λ h. within-fuel k (drop (taken (run p t)) t)
+      (omega (arith, length-drop (taken (run p t)) t, hit-pos p t some h, within-taken (run p t) t (within-run p t))) (keeps t h q))
+    where
+      go : (b : Bool) → hit (run p t) ≡ b
+          → (hit (run p t) ≡ true → Ends (drop (taken (run (star p) (drop (taken (run p t)) t))) (drop (taken (run p t)) t)))
+          → Ends (drop (taken (run (star p) t)) t)
+      go true h next =
+          subst Ends
+          (drop-drop (taken (run (star p) (drop (taken (run p t)) t))) (taken (run p t)) t ∙ ap (λ (n : ℕ). drop n t) (sym (star-some p some t h)))
+          (next h)
+      go false h next = subst (λ (n : ℕ). Ends (drop n t)) (sym (star-none p some t h)) (q, h)
+
+  pub star-ends : (t : List ℕ) → Q t → Q (drop (taken (run (star p) t)) t) × (hit (run p (drop (taken (run (star p) t)) t)) ≡ false)
+  star-ends t q = within-fuel (suc (length t)) t (omega arith) q

@@ -1,9 +1,9 @@
 -- Matches as steps: sequences, options, choices and loops, each a law about what its parts answered.
-use Prim.Native.Nat.{ℕ, zero, suc, _+_, _-_, _≤_, _<_, max}
+use Prim.Native.Nat.{ℕ, suc, _+_, _-_, _≤_, _<_, max}
 use native.Mathlib.Omega.{arith}
 use mathlib.Core.Path.{_≡_, refl, ap, ap₂, subst, sym, _∙_}
-use mathlib.Core.List.{List, [], _∷_}
-use mathlib.Core.Bool.{Bool, true, false}
+use mathlib.Core.List.{List}
+use mathlib.Core.Bool.{true}
 use lib.ListN.{length, take, drop, length-drop}
 use lib.Seq.{take-all, drop-drop}
 use Rattle.meaning.specs.declared.Match.{Match}
@@ -11,7 +11,7 @@ use Rattle.meaning.specs.declared.Match.the-variants.{Missed, Took}
 use Rattle.meaning.specs.Rules.{Rule}
 use Rattle.meaning.specs.Peg.{Peg, seq, alt, star, opt, quiet, rule, lift, join, after, orElse, maybe, hushed, again, run, bytewise, taken}
 use Rattle.grammar.specs.Matching.{Within, Reads, Steps, Tries, Stays, stay, eats}
-use Rattle.grammar.specs.Fits.{lift-0, lift-le, join-join, within-run, within-join, within-after, within-orElse}
+use Rattle.grammar.specs.Fits.{lift-0, join-join, within-run, within-after, within-orElse}
 use Rattle.grammar.specs.Stars.{Pos, eats-pos, unroll}
 
 -- ---- an answer that is the meaning's fits

@@ -13,7 +13,7 @@ use Rattle.meaning.specs.Rules.{Rule, is}
 use Rattle.meaning.specs.Peg.{Peg, lit, range, any, any-byte, end, neg, seq, alt, star, opt, quiet, rule, prefixb, oneByte, oneLetter, atEnd, within, run, bytewise, hit, taken}
 use Rattle.meaning.specs.Forest.{Forest, nil, tree, _⊕_, Out, missed, took, outcome, leaf, joinO, afterO, orElseO, maybeO, turnedO, hushedO, againO, noteO, manyO, eval, forest, clean, nodes}
 use Rattle.meaning.specs.Pdl.{WHITESPACE, COMMENT, skip, alpha, digit, hexdigit, alphanum, identifier, payload-identifier, body-identifier, intvalue, hexvalue, integer, string, size-modifier, ENUM, PACKET, STRUCT, GROUP, CHECKSUM, CUSTOM-FIELD, TEST, endianness-declaration}
-use Rattle.grammar.specs.Fits.{both-1, both-2}
+use Rattle.grammar.specs.Picks.{both-1, both-2}
 use Rattle.grammar.specs.Agree.{same}
 use Rattle.grammar.specs.Nodes.{clean-⊕}
 

@@ -1,5 +1,5 @@
 -- A blank run: it always takes, its mark is 0, and the code's walk over spaces and comments counts it.
-use Prim.Native.Nat.{ℕ, zero, suc, _+_, _-_, _≤_, _<_, max}
+use Prim.Native.Nat.{ℕ, suc, _+_, _-_, _≤_, _<_, max}
 use native.Mathlib.Omega.{arith}
 use mathlib.Core.Path.{_≡_, refl, ap, ap₂, subst, sym, _∙_}
 use mathlib.Core.List.{List}
@@ -11,10 +11,10 @@ use Rattle.meaning.specs.declared.Match.the-variants.{Missed, Took}
 use Rattle.meaning.specs.Peg.{Peg, seq, star, lift, join, after, hushed, again, run, bytewise, hit, taken}
 use Rattle.meaning.specs.Pdl.{WHITESPACE, block-comment, line-comment, COMMENT, skip}
 use Rattle.grammar.specs.Matching.{Within, Reads, Steps, eats}
+use Rattle.grammar.specs.Hits.{hit-seq, hit-star}
 use Rattle.grammar.specs.Fits.{join-join, within-run}
 use Rattle.grammar.specs.Stars.{Pos, eats-pos, unroll}
 use Rattle.grammar.specs.Steps.{reads, steps, at, rest-is, took-le}
-use Rattle.grammar.specs.Nodes.{hit-star}
 use Rattle.lexis.specs.declared.bytes.Class.the-variants.{Space}
 use Rattle.lexis.specs.Classes.{classed, span, Runs, star-one}
 
@@ -23,14 +23,6 @@ pub record Skips (t : List ℕ) (r : ℕ) : Type 0 where
   pub fits : r ≤ length t
 
 -- ---- skip always takes
-hit-join : (n f : ℕ) (m : Match) → hit m ≡ true → hit (join n f m) ≡ true
-hit-join n f (Missed g) e = e
-hit-join n f (Took k g) e = refl
-
-hit-after : (m : Match) (q : List ℕ → Match) (t : List ℕ) → hit m ≡ true → ((u : List ℕ) → hit (q u) ≡ true) → hit (after m q t) ≡ true
-hit-after (Missed f) q t e h = e
-hit-after (Took n f) q t e h = hit-join n f (q (drop n t)) (h (drop n t))
-
 hush-hit : (m : Match) → hit m ≡ true → hushed m ≡ Took (taken (hushed m)) 0
 hush-hit (Missed f) e = cc
 hush-hit (Took n f) e = refl
@@ -40,7 +32,10 @@ unfolding run skip
 skip-takes t =
     let a : Peg = star (bytewise WHITESPACE) in
     let b : Peg = star (seq (bytewise COMMENT) a) in
-    hush-hit (run (seq a b) t) (hit-after (run a t) (λ u. run b u) t (hit-star (bytewise WHITESPACE) t) (λ u. hit-star (seq (bytewise COMMENT) a) u))
+    hush-hit (run (seq a b) t) (hit-seq a b t (hit-star (seq (bytewise COMMENT) a) (drop (taken (run a t)) t)) ∙ hit-star (bytewise WHITESPACE) t)
+
+pub hit-skip : (t : List ℕ) → hit (run (bytewise skip) t) ≡ true
+hit-skip t = ap hit (skip-takes t)
 
 skip-fits : (t : List ℕ) (r : ℕ) → run (bytewise skip) t ≡ Took r 0 → r ≤ length t
 skip-fits t r e = took-le (run (bytewise skip) t) t r 0 (within-run (bytewise skip) t) e

@@ -19,8 +19,8 @@ use Rattle.meaning.specs.Places.{placeAt}
 use Rattle.meaning.specs.Rows.{endianness-words}
 use Rattle.meaning.specs.Walk.{part, textOf, place, endianness}
 use Rattle.grammar.specs.Matching.{Reads}
+use Rattle.grammar.specs.Hits.{hit-join, taken-join}
 use Rattle.grammar.specs.Steps.{rest-is}
-use Rattle.grammar.specs.Nodes.{hit-join, taken-join}
 use Rattle.reading.specs.declared.files.Line.{Line}
 use Rattle.reading.specs.Lines.{line-start, line-length, line-end, Lined}
 use Rattle.reading.specs.FileNodes.{line-hit, line-node, line-node-length}
@@ -59,7 +59,7 @@ line-long t e h = go (prefixb little t) e h
 
     go : (b : Bool) → b ≡ true → hit (after (orElse (pick b (Took (length little) 0) (Missed 1)) q t) p t) ≡ true
         → length little ≤ taken (after (orElse (pick b (Took (length little) 0) (Missed 1)) q t) p t)
-    go true e h = omega (arith, taken-join (length little) 0 (p (drop (length little) t)) (hit-join (length little) 0 (p (drop (length little) t)) h))
+    go true e h = omega (arith, taken-join (length little) 0 (p (drop (length little) t)) (sym (hit-join (length little) 0 (p (drop (length little) t))) ∙ h))
     go false e h = absurd (let z : _≡_ {A = ℕ} 0 1 = cc in omega arith)
 
 line-says : (t : List ℕ) → hit (run (bytewise endianness-declaration) t) ≡ true → prefixb little (take (taken (run (bytewise endianness-declaration) t)) t) ≡ prefixb little t

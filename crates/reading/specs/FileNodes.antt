@@ -15,8 +15,8 @@ use Rattle.meaning.specs.Forest.{Forest, nil, tree, _⊕_, nodes}
 use Rattle.meaning.specs.Pdl.{repeat, skip, endianness-declaration, declaration, SOI, EOI, file}
 use Rattle.meaning.specs.Walk.{part, parse-toplevel}
 use Rattle.grammar.specs.Matching.{Within, Steps}
+use Rattle.grammar.specs.Hits.{hit-before, hit-behind, taken-after}
 use Rattle.grammar.specs.Steps.{reads, steps}
-use Rattle.grammar.specs.Nodes.{hit-before, hit-behind, taken-after}
 use Rattle.grammar.specs.Lists.{repeat-nodes}
 use Rattle.grammar.specs.Drawing.{Draws, Follows, from-start, whole, drawn, leaf, then, noted, retold}
 use Rattle.lexis.specs.Skips.{skip-takes}

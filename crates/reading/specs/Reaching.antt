@@ -10,9 +10,9 @@ use Rattle.meaning.specs.declared.SourceLocation.{SourceLocation}
 use Rattle.meaning.specs.Peg.{seq, star, run, bytewise, hit, taken}
 use Rattle.meaning.specs.Pdl.{repeat, skip, declaration, file}
 use Rattle.meaning.specs.Places.{placeAt}
-use Rattle.grammar.specs.Stars.{unroll}
-use Rattle.grammar.specs.Nodes.{hit-star}
-use Rattle.walk.specs.Repeats.{star-none, some-turns, no-turns}
+use Rattle.grammar.specs.Hits.{hit-star}
+use Rattle.grammar.specs.Stars.{unroll, star-none}
+use Rattle.walk.specs.Repeats.{some-turns, no-turns}
 use Rattle.walk.specs.Ends.{skip-twice}
 use Rattle.declarations.specs.Files.{declaration-eats}
 use Rattle.declaration_rows.specs.Lists.{last, Reaches, Begun}

@@ -16,12 +16,12 @@ use Rattle.meaning.specs.Walk.{each}
 use Rattle.grammar.specs.Matching.{Reads}
 use Rattle.grammar.specs.Steps.{rest-is}
 use Rattle.grammar.specs.Drawing.{Draws}
+use Rattle.grammar.specs.Bounds.{took-inside}
 use Rattle.spans.specs.declared.TagMatch.{TagMatch}
 use Rattle.walk.specs.declared.Walk.{Walk}
 use Rattle.walk.specs.State.{state, emits}
 use Rattle.walk.specs.StateLaws.{emits-append}
 use Rattle.walk.specs.SaidLaws.{wider-few}
-use Rattle.walk.specs.Insides.{took-inside}
 use Rattle.walk.specs.Turns.{comma, rest, past, Over, past-from, first-item}
 use Rattle.walk.specs.Nexts.{FoundAt, found, none-comma, none-item}
 use Rattle.tag_rows.specs.Tags.{Form, values, tags, walked, itemsOf, listItems, stop, Done, WroteList, Lawful, lawful-tags}

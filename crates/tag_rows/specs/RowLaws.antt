@@ -17,6 +17,7 @@ use Rattle.meaning.specs.Pdl.{enum-value, enum-value-list}
 use Rattle.meaning.specs.Places.{placeAt}
 use Rattle.meaning.specs.Tables.{Table, size, Item, row, count, put}
 use Rattle.meaning.specs.Walk.{each, part}
+use Rattle.grammar.specs.Nodes.{nodes-missed}
 use Rattle.spans.specs.declared.Span.{Span}
 use Rattle.spans.specs.declared.TagValue.{TagValue}
 use Rattle.spans.specs.declared.TagRange.{TagRange}
@@ -29,7 +30,6 @@ use Rattle.walk.specs.StateLaws.{emits-append}
 use Rattle.walk.specs.SaidLaws.{said-number, noted-few, wider-few}
 use Rattle.walk.specs.Said.{numberAt, noNumber, said, spanName, tagWords}
 use Rattle.walk.specs.Turns.{list-past}
-use Rattle.walk.specs.Missed.{nodes-missed}
 use Rattle.walk.specs.Listing.{inside, inside-is}
 use Rattle.tag_rows.specs.Tags.{values, walked, listItems, stop, Done, valueItems, otherItems, innerItems, rangeRow, rangeItems}
 use Rattle.tag_rows.specs.Placed.{PlacedValue, PlacedOther, PlacedRange, PlacedInner}

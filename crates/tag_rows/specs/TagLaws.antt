@@ -14,7 +14,10 @@ use Rattle.meaning.specs.Forest.{Forest, nil, tree, nodes}
 use Rattle.meaning.specs.Pdl.{enum-value, enum-value-list}
 use Rattle.meaning.specs.Tables.{Item}
 use Rattle.meaning.specs.Walk.{each, following}
-use Rattle.grammar.specs.Nodes.{hit-pos}
+use Rattle.grammar.specs.Stars.{hit-pos}
+use Rattle.grammar.specs.Nodes.{nodes-missed}
+use Rattle.grammar.specs.Bounds.{Held, held, held-left, held-right, took-inside}
+use Rattle.grammar.specs.Order.{From, kidsOf}
 use Rattle.spans.specs.declared.Span.{Span}
 use Rattle.spans.specs.declared.TagValue.{TagValue}
 use Rattle.spans.specs.declared.TagRange.{TagRange}
@@ -26,13 +29,11 @@ use Rattle.spans.specs.Drawn.{leafAt, listAt, drawTag}
 use Rattle.walk.specs.declared.Walk.{Walk}
 use Rattle.walk.specs.State.{emits, Few}
 use Rattle.walk.specs.SaidLaws.{wider-few}
-use Rattle.walk.specs.Held.{Held}
-use Rattle.walk.specs.Missed.{nodes-missed}
 use Rattle.walk.specs.Listing.{inside, inside-is}
-use Rattle.walk.specs.Insides.{held, held-left, held-right, span-inside, took-inside}
+use Rattle.walk.specs.Insides.{span-inside}
 use Rattle.tag_rows.specs.Tags.{Form, values, tags, walked, itemsOf, listItems, Done, valueItems, otherItems, rangeItems, Lawful, lawful-values, lawful-tags, inside-value, inside-range, inside-other, tag-value, tag-range, tag-other}
 use Rattle.tag_rows.specs.Placed.{Here, PlacedValue, PlacedOther, ListInside, PlacedRange, Met}
-use Rattle.tag_rows.specs.Behind.{From, kidsOf, tag-behind, values-hit, values-node}
+use Rattle.tag_rows.specs.Behind.{tag-behind, values-hit, values-node}
 
 -- ---- promises in other words
 pub done-as : {xs ys : List Item} {j k : ℕ} {n r : Walk} {t u : List ℕ} → xs ≡ ys → j ≡ k → Done ys k n r t u → Done xs j n r t u

@@ -1,14 +1,14 @@
 -- A tag's later alternative, and that a list of values takes a byte.
 use Prim.Native.Nat.{ℕ}
-use native.Mathlib.Omega.{arith}
 use mathlib.Core.Path.{_≡_, refl, ap, sym, _∙_}
 use mathlib.Core.List.{List}
 use mathlib.Core.Bool.{true}
 use Rattle.meaning.specs.declared.Match.{Match}
-use Rattle.meaning.specs.declared.Match.the-variants.{Missed, Took}
+use Rattle.meaning.specs.declared.Match.the-variants.{Missed}
 use Rattle.meaning.specs.Peg.{Peg, alt, join, bytewise, taken}
 use Rattle.meaning.specs.Pdl.{alpha, identifier, enum-value, enum-value-list}
 use Rattle.grammar.specs.Matching.{Reads, eats}
+use Rattle.grammar.specs.Hits.{taken-here}
 use Rattle.grammar.specs.Drawing.{Draws, second, redrawn}
 use Rattle.spans.specs.declared.Tag.{Tag}
 use Rattle.spans.specs.Drawn.{drawTag}
@@ -18,12 +18,8 @@ pub list-eats : eats (bytewise enum-value-list) ≡ true
 unfolding enum-value-list enum-value identifier alpha
 list-eats = refl
 
-taken-join : (f : ℕ) (y : Match) → taken y ≡ taken (join 0 f y)
-taken-join f (Missed g) = refl
-taken-join f (Took n g) = omega arith
-
 -- where a missed, b is tried from the same start with a's mark
 pub tag-else : {a b : Peg} {t : List ℕ} {x y r : Match} (tag : Tag) (f : ℕ) → Reads a t x → x ≡ Missed f
     → Draws b t y (λ o. drawTag o t (taken y) tag) → r ≡ join 0 f y → Draws (alt a b) t r (λ o. drawTag o t (taken r) tag)
 tag-else {a} {b} {t} {x} {y} {r} tag f d e k q =
-    redrawn (second f d e k q) (λ h o. ap (λ (n : ℕ). drawTag o t n tag) (taken-join f y ∙ ap taken (sym q)))
+    redrawn (second f d e k q) (λ h o. ap (λ (n : ℕ). drawTag o t n tag) (sym (taken-here f y) ∙ ap taken (sym q)))

@@ -11,7 +11,9 @@ use Rattle.meaning.specs.Choice.{pick}
 use Rattle.meaning.specs.Peg.{Peg, run, bytewise, hit, taken}
 use Rattle.meaning.specs.Forest.{Forest, nil, _⊕_, nodes}
 use Rattle.grammar.specs.Matching.{Steps, eats}
-use Rattle.grammar.specs.Nodes.{nil-right, hit-before, hit-behind, taken-after, hit-pos}
+use Rattle.grammar.specs.Hits.{hit-before, hit-behind, taken-after}
+use Rattle.grammar.specs.Stars.{hit-pos}
+use Rattle.grammar.specs.Nodes.{nil-right}
 use Rattle.spans.specs.Spans.{spanOf, absentSpan}
 use Rattle.spans.specs.Drawn.{listAt}
 

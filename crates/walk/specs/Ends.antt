@@ -3,19 +3,19 @@ use Prim.Native.Nat.{ℕ, _+_}
 use native.Mathlib.Omega.{arith}
 use mathlib.Core.Path.{_≡_, refl, ap, subst, sym, _∙_}
 use mathlib.Core.List.{List}
-use mathlib.Core.Bool.{Bool, true, false}
+use mathlib.Core.Bool.{true, false}
 use lib.ListN.{drop}
 use lib.Seq.{drop-drop}
 use Rattle.meaning.specs.declared.Match.{Match}
-use Rattle.meaning.specs.declared.Match.the-variants.{Missed, Took}
 use Rattle.meaning.specs.Rules.{Rule, is}
-use Rattle.meaning.specs.Peg.{Peg, seq, star, opt, maybe, hushed, run, bytewise, hit, taken}
+use Rattle.meaning.specs.Peg.{Peg, seq, star, opt, run, bytewise, hit, taken}
 use Rattle.meaning.specs.Pdl.{text, _~_, repeat, skip, WHITESPACE, COMMENT, block-comment, line-comment}
 use Rattle.grammar.specs.Matching.{Reads, eats}
-use Rattle.grammar.specs.Nodes.{taken-after, hit-star}
-use Rattle.lexis.specs.Skips.{skip-takes}
-use Rattle.walk.specs.Repeats.{seq-taken, star-none, star-ends}
-use Rattle.walk.specs.Turns.{turn, eats-turn, past, hit-opt, hit-turns, turns-some, turns-none}
+use Rattle.grammar.specs.Hits.{taken-hushed, taken-after, taken-seq, hit-opt, hit-star}
+use Rattle.grammar.specs.Stars.{star-none, star-ends}
+use Rattle.grammar.specs.Lists.{repeat-end}
+use Rattle.lexis.specs.Skips.{hit-skip}
+use Rattle.walk.specs.Turns.{turn, eats-turn, past, hit-blank-opt, hit-turns}
 use Rattle.walk.specs.Listing.{inside, inside-hit, last, listOf}
 
 -- ---- blanks behind blanks are none
@@ -39,11 +39,9 @@ Bare u = (hit (run (bytewise WHITESPACE) u) ≡ false) × (hit (run noted u) ≡
 
 skip-taken : (t : List ℕ) → taken (run (bytewise skip) t) ≡ taken (run spaces t) + taken (run (star noted) (drop (taken (run spaces t)) t))
 unfolding run skip
-skip-taken t = quiet (run (seq spaces (star noted)) t) ∙ seq-taken spaces (star noted) t (hit-star (bytewise WHITESPACE) t) (hit-star noted (drop (taken (run spaces t)) t))
-  where
-    quiet : (m : Match) → taken (hushed m) ≡ taken m
-    quiet (Missed f) = refl
-    quiet (Took n f) = refl
+skip-taken t =
+    taken-hushed (run (seq spaces (star noted)) t)
+    ∙ taken-seq spaces (star noted) t (hit-star (bytewise WHITESPACE) t) (hit-star noted (drop (taken (run spaces t)) t))
 
 -- spaces end where none follows, and so does a comment with the spaces behind it
 spaces-end : (t : List ℕ) → hit (run (bytewise WHITESPACE) (drop (taken (run spaces t)) t)) ≡ false
@@ -76,16 +74,8 @@ skip-twice t = bare-skip (drop (taken (run (bytewise skip) t)) t) (skip-ends t)
 abbrev comma-taken : List ℕ → ℕ
 comma-taken u = taken (run (opt (bytewise (text ","))) u)
 
-comma-hit : (u : List ℕ) → hit (run (opt (bytewise (text ","))) u) ≡ true
-unfolding run
-comma-hit u = go (run (bytewise (text ",")) u)
-  where
-    go : (m : Match) → hit (maybe m) ≡ true
-    go (Missed f) = refl
-    go (Took n f) = refl
-
 last-taken : (u : List ℕ) → taken (run (bytewise last) u) ≡ taken (run (bytewise skip) u) + comma-taken (drop (taken (run (bytewise skip) u)) u)
-last-taken u = seq-taken (bytewise skip) (opt (bytewise (text ","))) u (ap hit (skip-takes u)) (comma-hit (drop (taken (run (bytewise skip) u)) u))
+last-taken u = taken-seq (bytewise skip) (opt (bytewise (text ","))) u (hit-skip u) (hit-opt (bytewise (text ",")) _)
 
 -- n bytes, and what the last comma takes behind them
 abbrev ending : ℕ → List ℕ → ℕ
@@ -100,13 +90,9 @@ last-behind u =
 
 -- the rule takes blanks even where no turn follows them; counted from the end of the turns it ends at the same place
 same-last : (x : Peg) (u : List ℕ) → ending (taken (run (bytewise (seq skip (repeat (text "," ~ x)))) u)) u ≡ ending (taken (run (star (bytewise (turn x))) u)) u
-same-last x u = go (hit (run (bytewise (turn x)) u)) refl
-  where
-    go : (b : Bool) → hit (run (bytewise (turn x)) u) ≡ b → ending (taken (run (bytewise (seq skip (repeat (text "," ~ x)))) u)) u ≡ ending (taken (run (star (bytewise (turn x))) u)) u
-    go true h = ap (λ (n : ℕ). ending n u) (turns-some x u h)
-    go false h =
-        let z : ending 0 u ≡ taken (run (bytewise last) u) = omega arith in
-        ap (λ (n : ℕ). ending n u) (turns-none x u h) ∙ last-behind u ∙ sym (ap (λ (n : ℕ). ending n u) (star-none (bytewise (turn x)) (eats-turn x) u h) ∙ z)
+same-last x u =
+    repeat-end (bytewise skip) (bytewise (text "," ~ x)) hit-skip (eats-turn x) u (λ n. ending n u)
+    (last-behind u ∙ (let z : taken (run (bytewise last) u) ≡ ending 0 u = omega arith in z))
 
 -- ---- the list at i, whose last item ends at j: z is the last comma there
 module _ (k : Rule) (x : Peg) (plain : is Rule.COMMENT k ≡ false) where
@@ -120,8 +106,8 @@ module _ (k : Rule) (x : Peg) (plain : is Rule.COMMENT k ≡ false) where
       let m : ℕ = taken (run (bytewise (seq skip (repeat (text "," ~ x)))) v) in
       let s : ℕ = taken (run (star (bytewise (turn x))) v) in
       let all : taken (run (bytewise (listOf k x)) u) ≡ taken (run (bytewise (inside x)) u) + taken (run (bytewise last) (drop (taken (run (bytewise (inside x)) u)) u))
-      = seq-taken (bytewise (inside x)) (bytewise last) u (inside-hit x u h) (hit-opt (text ",") _) in
-      let items : taken (run (bytewise (inside x)) u) ≡ n + m = seq-taken (bytewise x) (bytewise (seq skip (repeat (text "," ~ x)))) u h (hit-turns x _) in
+      = taken-seq (bytewise (inside x)) (bytewise last) u (inside-hit x u h) (hit-blank-opt (text ",") _) in
+      let items : taken (run (bytewise (inside x)) u) ≡ n + m = taken-seq (bytewise x) (bytewise (seq skip (repeat (text "," ~ x)))) u h (hit-turns x _) in
       let behind : taken (run (bytewise last) (drop (taken (run (bytewise (inside x)) u)) u)) ≡ taken (run (bytewise last) (drop m v))
       = ap (λ (w : List ℕ). taken (run (bytewise last) w)) (ap (λ (l : ℕ). drop l u) items ∙ sym (drop-drop m n u)) in
       let turns : s ≡ taken (run (star (bytewise (turn x))) (drop (i + n) src)) = ap (λ (w : List ℕ). taken (run (star (bytewise (turn x))) w)) (drop-drop n i src) in

@@ -1,39 +1,14 @@
 -- The spans of an answer lie inside its match, because the nodes that they draw do.
-use Prim.Native.Nat.{ℕ, _+_, _-_, _≤_}
+use Prim.Native.Nat.{ℕ, _+_, _≤_}
 use native.Mathlib.Omega.{arith}
-use mathlib.Core.Path.{_≡_, refl, subst, sym}
-use mathlib.Core.Bool.{true}
-use mathlib.Core.List.{List}
-use lib.ListN.{length, drop, length-drop}
-use Rattle.meaning.specs.declared.Match.{Match}
-use Rattle.meaning.specs.declared.Match.the-variants.{Missed, Took}
 use Rattle.meaning.specs.Rules.{Rule}
-use Rattle.meaning.specs.Peg.{Peg, run, bytewise, taken, hit}
-use Rattle.meaning.specs.Forest.{Forest, nil, tree, _⊕_, nodes}
-use Rattle.grammar.specs.Matching.{Reads, Within}
-use Rattle.grammar.specs.Drawing.{Draws}
+use Rattle.grammar.specs.Bounds.{Held, held-left, held-right}
 use Rattle.spans.specs.declared.Span.{Span}
 use Rattle.spans.specs.declared.Token.{Token}
 use Rattle.spans.specs.declared.Token.the-variants.{Absent, Identifier, PayloadIdentifier, BodyIdentifier, Integer, Text, SizeModifier}
 use Rattle.spans.specs.declared.Constraint.{Constraint}
 use Rattle.spans.specs.Drawn.{leafAt, drawToken, drawConstraint}
-use Rattle.walk.specs.Held.{Held, nodes-held}
 use Rattle.walk.specs.Said.{Inside, InsideToken}
-
--- the nodes of a match that draws w lie inside it
-pub held : {g : Peg} {t : List ℕ} {r : Match} {w : ℕ → Forest} → Draws g t r w → hit r ≡ true → (o : ℕ) → Held o (o + taken r) (w o)
-held {g} {t} {r} {w} d h o =
-    subst (λ (v : Forest). Held o (o + taken r) v) (d .draws h o)
-    (subst (λ (m : Match). Held o (o + taken m) (nodes (bytewise g) o t)) (sym (d .reads .is)) (nodes-held (bytewise g) o t))
-
--- a part of a forest
-pub held-left : (a b : ℕ) (v w : Forest) → Held a b (v ⊕ w) → Held a b v
-held-left a b nil w h = tt
-held-left a b (tree r s l k more) w h = (h .0, (h .1 .0, (h .1 .1 .0, held-left a b more w (h .1 .1 .1))))
-
-pub held-right : (a b : ℕ) (v w : Forest) → Held a b (v ⊕ w) → Held a b w
-held-right a b nil w h = h
-held-right a b (tree r s l k more) w h = held-right a b more w (h .1 .1 .1)
 
 -- a node, and a token
 pub span-inside : (k : Rule) (o n : ℕ) (s : Span) → Held o (o + n) (leafAt k o s) → Inside n s
@@ -69,11 +44,3 @@ constraint-inside o k n c e h =
     let b : Inside k (c .id) = span-inside Rule.identifier o k (c .id) (held-left o (o + k) (leafAt Rule.identifier o (c .id)) (drawToken o (c .value)) (h .1 .1 .0)) in
     let v : InsideToken k (c .value) = token-inside o k (c .value) (held-right o (o + k) (leafAt Rule.identifier o (c .id)) (drawToken o (c .value)) (h .1 .1 .0)) in
     record { span = omega (arith, a, e); id = omega (arith, b, e); value = wider-token k n (c .value) e v }
-
--- how much of the source is left where a match starts
-pub took-inside : {g : Peg} (src : List ℕ) {r : Match} (i : ℕ) → i ≤ length src → Reads g (drop i src) r → taken r ≤ length src - i
-took-inside {g} src {r} i e h = go r (h .fits)
-  where
-    go : (m : Match) → Within m (drop i src) → taken m ≤ length src - i
-    go (Missed f) w = omega arith
-    go (Took n f) w = let z : n ≤ length (drop i src) = w .0 in omega (arith, length-drop i src)

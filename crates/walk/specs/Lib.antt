@@ -1,8 +1,6 @@
 pub mod State
 pub mod StateLaws
 pub mod Counts
-pub mod Held
-pub mod Missed
 pub mod Said
 pub mod DrawnItems
 pub mod Ready

@@ -11,11 +11,11 @@ use Rattle.meaning.specs.Peg.{Peg, run, bytewise, hit, taken}
 use Rattle.meaning.specs.Forest.{Forest, _⊕_, nodes}
 use Rattle.meaning.specs.Pdl.{skip}
 use Rattle.grammar.specs.Matching.{Reads, eats}
+use Rattle.grammar.specs.Stars.{hit-pos}
 use Rattle.grammar.specs.Steps.{at, rest-is, reads}
-use Rattle.grammar.specs.Nodes.{hit-pos}
 use Rattle.grammar.specs.Drawing.{Draws}
+use Rattle.grammar.specs.Bounds.{took-inside}
 use Rattle.walk.specs.Turns.{comma, rest, past, Over, next-item, next-past, no-comma, no-item}
-use Rattle.walk.specs.Insides.{took-inside}
 
 -- x matches as r at e, behind a comma that follows j; w are its nodes
 pub record FoundAt (x : Peg) (src : List ℕ) (j e : ℕ) (r : Match) (w : ℕ → Forest) : Type 0 where

@@ -1,7 +1,7 @@
 use borrow.Author.Needs.{needs}
-use Rattle.grammar.specs.Drawing.{then, whole, noted, maybe, redrawn}
+use Rattle.grammar.specs.Drawing.{whole, opened, then, noted, maybe, redrawn}
 use Rattle.spans.specs.Parts.{gap, sign}
-use Rattle.fields.specs.Kept.{opened, condition}
+use Rattle.fields.specs.Kept.{condition}
 use Rattle.meaning.specs.Rules.{Rule}
 use Rattle.meaning.specs.Forest.{Forest, _⊕_}
 use mathlib.Core.Path.{refl, ap}

@@ -1,18 +1,21 @@
--- Every node of a match lies inside what the match takes, for every expression.
-use Prim.Native.Nat.{ℕ, zero, suc, _+_, _≤_}
+-- Every node of a match lies inside what the match takes, and a match inside its text, for every expression.
+use Prim.Native.Nat.{ℕ, zero, suc, _+_, _-_, _≤_}
 use native.Mathlib.Omega.{arith}
-use mathlib.Core.Path.{_≡_, refl, ap, subst, sym, _∙_}
-use mathlib.Core.List.{List, [], _∷_}
+use mathlib.Core.Path.{_≡_, subst, sym}
+use mathlib.Core.List.{List}
 use mathlib.Core.Bool.{Bool, true, false}
-use lib.ListN.{length, drop}
+use lib.ListN.{length, drop, length-drop}
 use Rattle.meaning.specs.declared.Match.{Match}
 use Rattle.meaning.specs.declared.Match.the-variants.{Missed, Took}
 use Rattle.meaning.specs.Choice.{pick}
 use Rattle.meaning.specs.Rules.{Rule, is}
-use Rattle.meaning.specs.Peg.{Peg, lit, range, any, any-byte, end, neg, seq, alt, star, opt, quiet, rule, prefixb, oneByte, oneLetter, atEnd, within, run, taken}
+use Rattle.meaning.specs.Peg.{Peg, lit, range, any, any-byte, end, neg, seq, alt, star, opt, quiet, rule, prefixb, oneByte, oneLetter, atEnd, within, run, bytewise, hit, taken}
 use Rattle.meaning.specs.Utf8.{character}
 use Rattle.meaning.specs.Forest.{Forest, nil, tree, _⊕_, Out, missed, took, outcome, leaf, joinO, afterO, orElseO, maybeO, turnedO, hushedO, againO, noteO, manyO, eval, forest, clean, nodes}
+use Rattle.grammar.specs.Matching.{Reads}
+use Rattle.grammar.specs.Fits.{within-taken}
 use Rattle.grammar.specs.Agree.{same}
+use Rattle.grammar.specs.Drawing.{Draws}
 
 -- all nodes of a forest lie from lo to hi
 abbrev pub Held : ℕ → ℕ → Forest → Type 0
@@ -29,6 +32,15 @@ wider a b c d (tree r s l k more) p q h =
 held-⊕ : (a b : ℕ) (v w : Forest) → Held a b v → Held a b w → Held a b (v ⊕ w)
 held-⊕ a b nil w h k = k
 held-⊕ a b (tree r s l kids more) w h k = (h .0, (h .1 .0, (h .1 .1 .0, held-⊕ a b more w (h .1 .1 .1) k)))
+
+-- a part of a forest
+pub held-left : (a b : ℕ) (v w : Forest) → Held a b (v ⊕ w) → Held a b v
+held-left a b nil w h = tt
+held-left a b (tree r s l k more) w h = (h .0, (h .1 .0, (h .1 .1 .0, held-left a b more w (h .1 .1 .1))))
+
+pub held-right : (a b : ℕ) (v w : Forest) → Held a b (v ⊕ w) → Held a b w
+held-right a b nil w h = h
+held-right a b (tree r s l k more) w h = held-right a b more w (h .1 .1 .1)
 
 held-clean : (a b : ℕ) (w : Forest) → Held a b w → Held a b (clean w)
 held-clean a b nil h = tt
@@ -113,3 +125,12 @@ nodes-held g o t = held-clean o (o + taken (run g t)) (forest (eval g o t)) (sub
     go : (x : Out) → HeldO o x → Held o (o + taken (outcome x)) (forest x)
     go (missed f) h = tt
     go (took n f w) h = h
+
+pub held : {g : Peg} {t : List ℕ} {r : Match} {w : ℕ → Forest} → Draws g t r w → hit r ≡ true → (o : ℕ) → Held o (o + taken r) (w o)
+held {g} {t} {r} {w} d h o =
+    subst (λ (v : Forest). Held o (o + taken r) v) (d .draws h o)
+    (subst (λ (m : Match). Held o (o + taken m) (nodes (bytewise g) o t)) (sym (d .reads .is)) (nodes-held (bytewise g) o t))
+
+-- a match at i in a source
+pub took-inside : {g : Peg} (src : List ℕ) {r : Match} (i : ℕ) → i ≤ length src → Reads g (drop i src) r → taken r ≤ length src - i
+took-inside {g} src {r} i e h = omega (arith, within-taken r (drop i src) (h .fits), length-drop i src)
