@@ -120,7 +120,9 @@ held-eval (rule r p) o t = held-note r o (eval p o t) (held-eval p o t)
 -- the nodes of a match lie inside it
 pub nodes-held : (g : Peg) (o : ℕ) (t : List ℕ) → Held o (o + taken (run g t)) (nodes g o t)
 unfolding nodes
-nodes-held g o t = held-clean o (o + taken (run g t)) (forest (eval g o t)) (subst (λ (m : Match). Held o (o + taken m) (forest (eval g o t))) (same g o t) (go (eval g o t) (held-eval g o t)))
+nodes-held g o t =
+    held-clean o (o + taken (run g t)) (forest (eval g o t))
+    (subst (λ (m : Match). Held o (o + taken m) (forest (eval g o t))) (same g o t) (go (eval g o t) (held-eval g o t)))
   where
     go : (x : Out) → HeldO o x → Held o (o + taken (outcome x)) (forest x)
     go (missed f) h = tt

@@ -76,7 +76,8 @@ module _ (q : List ℕ → Bool) (t : List ℕ) (gone : (l : List ℕ) → q l �
   same (seq a b) = same-self (seq a b) t
   same (alt a b) = go (opens q a) refl (opens q b) refl (same a) (same b)
     where
-      go : (x : Bool) → opens q a ≡ x → (y : Bool) → opens q b ≡ y → Same a (left q a) t → Same b (left q b) t → Same (alt a b) (pick x (left q b) (pick y (left q a) (alt a b))) t
+      go : (x : Bool) → opens q a ≡ x → (y : Bool) → opens q b ≡ y → Same a (left q a) t → Same b (left q b) t
+          → Same (alt a b) (pick x (left q b) (pick y (left q a) (alt a b))) t
       go true e y f k m = same-right a b t (left q b) (ap hit (misses q t gone a e)) m
       go false e true f k m = same-left a b t (left q a) (ap hit (misses q t gone b f)) k
       go false e false f k m = same-self (alt a b) t

@@ -8,7 +8,9 @@ pub mod Joining
 pub mod Bytewise
 pub mod Steps
 pub mod Nodes
+pub mod Silence
 pub mod Drawing
+pub mod Blanks
 pub mod Lists
 pub mod Bounds
 pub mod Order

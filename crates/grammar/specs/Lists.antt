@@ -85,7 +85,8 @@ module _ (k e : Peg) (always : (u : List ℕ) → hit (run k u) ≡ true) (some 
       go false h = ap f (repeat-none h) ∙ z ∙ ap f (sym (star-none (seq k e) some t h))
 
 -- their nodes are the turns', if blanks leave none
-module _ (k e : Peg) (always : (u : List ℕ) → hit (run k u) ≡ true) (none : (o : ℕ) (u : List ℕ) → nodes k o u ≡ nil) (some : eats (seq k e) ≡ true) (o : ℕ) (t : List ℕ) where
+module _ (k e : Peg) (always : (u : List ℕ) → hit (run k u) ≡ true) (none : (o : ℕ) (u : List ℕ) → nodes k o u ≡ nil)
+    (some : eats (seq k e) ≡ true) (o : ℕ) (t : List ℕ) where
   turn-nodes : hit (run (seq k e) t) ≡ true
       → nodes (seq k e) o t ⊕ nodes (star (seq k e)) (o + taken (run (seq k e) t)) (drop (taken (run (seq k e) t)) t)
       ≡ nodes (seq e (star (seq k e))) (o + taken (run k t)) (drop (taken (run k t)) t)

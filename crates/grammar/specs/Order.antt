@@ -53,7 +53,8 @@ led-seq {a} {b} l =
           let hb : hit (run b (drop (taken (run a t)) t)) ≡ true = hit-behind (run a t) (λ u. run b u) t h in
           subst (λ (w : Forest). From (o + 1) (following w)) (sym (nodes-seq a b o t ha hb))
           (from-following (o + 1) (nodes a o t) (nodes b (o + taken (run a t)) (drop (taken (run a t)) t)) (l .behind o t ha)
-          (from-held (o + 1) (o + taken (run a t)) _ (nodes b (o + taken (run a t)) (drop (taken (run a t)) t)) (omega (arith, hit-pos a t (l .some) ha)) (nodes-held b (o + taken (run a t)) (drop (taken (run a t)) t))));
+          (from-held (o + 1) (o + taken (run a t)) _ (nodes b (o + taken (run a t)) (drop (taken (run a t)) t))
+          (omega (arith, hit-pos a t (l .some) ha)) (nodes-held b (o + taken (run a t)) (drop (taken (run a t)) t))));
     }
 
 -- the children of the first node

@@ -134,7 +134,8 @@ pub star-some : (p : Peg) → eats p ≡ true → (t : List ℕ) → hit (run p 
 star-some p e t h = ap taken (unroll p e t) ∙ taken-again (run p t) (λ u. run (star p) u) t h (λ u. hit-star p u)
 
 -- it ends where its expression misses; and what each turn keeps holds there, if it holds at the start
-module _ (p : Peg) (some : eats p ≡ true) (Q : List ℕ → Type 0) (keeps : (u : List ℕ) → hit (run p u) ≡ true → Q u → Q (drop (taken (run p u)) u)) where
+module _ (p : Peg) (some : eats p ≡ true) (Q : List ℕ → Type 0)
+    (keeps : (u : List ℕ) → hit (run p u) ≡ true → Q u → Q (drop (taken (run p u)) u)) where
   abbrev Ends : List ℕ → Type 0
   Ends u = Q u × (hit (run p u) ≡ false)
 

@@ -15,6 +15,7 @@ use Rattle.grammar.specs.Hits.{hit-seq, hit-star}
 use Rattle.grammar.specs.Fits.{join-join, within-run}
 use Rattle.grammar.specs.Stars.{Pos, eats-pos, unroll}
 use Rattle.grammar.specs.Steps.{reads, steps, at, rest-is, took-le}
+use Rattle.grammar.specs.Blanks.{blanks-twice}
 use Rattle.lexis.specs.declared.bytes.Class.the-variants.{Space}
 use Rattle.lexis.specs.Classes.{classed, span, Runs, star-one}
 
@@ -85,6 +86,15 @@ walk-start {t} {n} h =
 eats-noted : eats noted ≡ true
 unfolding COMMENT block-comment line-comment
 eats-noted = refl
+
+eats-space : eats (bytewise WHITESPACE) ≡ true
+unfolding WHITESPACE
+eats-space = refl
+
+-- blanks behind blanks are none
+pub skip-twice : (t : List ℕ) → taken (run (bytewise skip) (drop (taken (run (bytewise skip) t)) t)) ≡ 0
+unfolding skip
+skip-twice t = blanks-twice (bytewise WHITESPACE) (bytewise COMMENT) eats-space eats-noted t
 
 eats-comment : eats (bytewise COMMENT) ≡ true
 unfolding COMMENT block-comment line-comment

@@ -17,10 +17,11 @@ use Rattle.meaning.specs.Walk.{part, parse-toplevel}
 use Rattle.grammar.specs.Matching.{Within, Steps}
 use Rattle.grammar.specs.Hits.{hit-before, hit-behind, taken-after}
 use Rattle.grammar.specs.Steps.{reads, steps}
+use Rattle.grammar.specs.Silence.{leaf-of}
 use Rattle.grammar.specs.Lists.{repeat-nodes}
 use Rattle.grammar.specs.Drawing.{Draws, Follows, from-start, whole, drawn, leaf, then, noted, retold}
 use Rattle.lexis.specs.Skips.{skip-takes}
-use Rattle.lexis.specs.Leaves.{leaf-of, skip-none, endianness-declaration-leaf}
+use Rattle.lexis.specs.Leaves.{skip-none, endianness-declaration-leaf}
 use Rattle.spans.specs.Parts.{gap, sign}
 use Rattle.declarations.specs.Files.{begun, declaration-eats}
 use Rattle.declaration_rows.specs.Lists.{rest}

@@ -1,19 +1,17 @@
 -- The walk over the declarations of a file that matches reaches the end of the source.
 use Prim.Native.Nat.{ℕ, _+_}
 use native.Mathlib.Omega.{arith}
-use mathlib.Core.Path.{_≡_, refl, ap, subst, sym, _∙_}
+use mathlib.Core.Path.{_≡_, ap, subst, sym}
 use mathlib.Core.List.{List}
-use mathlib.Core.Bool.{Bool, true, false}
+use mathlib.Core.Bool.{true}
 use lib.ListN.{drop}
 use lib.Seq.{drop-drop}
 use Rattle.meaning.specs.declared.SourceLocation.{SourceLocation}
 use Rattle.meaning.specs.Peg.{seq, star, run, bytewise, hit, taken}
 use Rattle.meaning.specs.Pdl.{repeat, skip, declaration, file}
 use Rattle.meaning.specs.Places.{placeAt}
-use Rattle.grammar.specs.Hits.{hit-star}
-use Rattle.grammar.specs.Stars.{unroll, star-none}
-use Rattle.walk.specs.Repeats.{some-turns, no-turns}
-use Rattle.walk.specs.Ends.{skip-twice}
+use Rattle.grammar.specs.Lists.{repeat-end}
+use Rattle.lexis.specs.Skips.{hit-skip, skip-twice}
 use Rattle.declarations.specs.Files.{declaration-eats}
 use Rattle.declaration_rows.specs.Lists.{last, Reaches, Begun}
 use Rattle.reading.specs.declared.files.Line.{Line}
@@ -26,27 +24,11 @@ abbrev blanked : List ℕ → ℕ → ℕ
 blanked u n = n + taken (run (bytewise skip) (drop n u))
 
 -- whether the blanks behind the declarations are taken with them or not, they end at the same place
-module _ (u : List ℕ) where
-  some : hit (run (bytewise (seq skip declaration)) u) ≡ true → taken (run (bytewise (seq skip (repeat declaration))) u) ≡ taken (run (star (bytewise (seq skip declaration))) u)
-  unfolding run
-  some h =
-      some-turns (λ v. run (bytewise declaration) v) (λ v. run (star (bytewise (seq skip declaration))) v) (λ v. hit-star (bytewise (seq skip declaration)) v) u (run (bytewise skip) u) h
-      ∙ ap taken (sym (unroll (bytewise (seq skip declaration)) declaration-eats u))
-
-  none : hit (run (bytewise (seq skip declaration)) u) ≡ false → taken (run (bytewise (seq skip (repeat declaration))) u) ≡ taken (run (bytewise skip) u)
-  unfolding run
-  none h = no-turns (λ v. run (bytewise declaration) v) (λ v. run (star (bytewise (seq skip declaration))) v) (λ v. hit-star (bytewise (seq skip declaration)) v) u (run (bytewise skip) u) h
-
-  same-end : blanked u (taken (run (star (bytewise (seq skip declaration))) u)) ≡ blanked u (taken (run (bytewise (seq skip (repeat declaration))) u))
-  same-end = go (hit (run (bytewise (seq skip declaration)) u)) refl
-    where
-      go : (b : Bool) → hit (run (bytewise (seq skip declaration)) u) ≡ b
-          → blanked u (taken (run (star (bytewise (seq skip declaration))) u)) ≡ blanked u (taken (run (bytewise (seq skip (repeat declaration))) u))
-      go true h = ap (blanked u) (sym (some h))
-      go false h =
-          ap (blanked u) (star-none (bytewise (seq skip declaration)) declaration-eats u h)
-          ∙ (let z : blanked u 0 ≡ blanked u (taken (run (bytewise skip) u)) = omega (arith, skip-twice u) in z)
-          ∙ ap (blanked u) (sym (none h))
+same-end : (u : List ℕ)
+    → blanked u (taken (run (star (bytewise (seq skip declaration))) u)) ≡ blanked u (taken (run (bytewise (seq skip (repeat declaration))) u))
+same-end u =
+    sym (repeat-end (bytewise skip) (bytewise declaration) hit-skip declaration-eats u (blanked u)
+    (let z : blanked u (taken (run (bytewise skip) u)) ≡ blanked u 0 = omega (arith, skip-twice u) in z))
 
 reaches : (t : List ℕ) → hit (run (bytewise file) t) ≡ true → Reaches t (line-end t)
 unfolding last

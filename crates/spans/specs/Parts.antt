@@ -2,15 +2,15 @@
 use Prim.Native.Nat.{ℕ}
 use mathlib.Core.Path.{_≡_, refl}
 use mathlib.Core.List.{List}
-use mathlib.Core.Bool.{true}
 use Rattle.meaning.specs.declared.Match.{Match}
 use Rattle.meaning.specs.Rules.{Rule}
-use Rattle.meaning.specs.Peg.{Peg, lit, seq, bytewise}
-use Rattle.meaning.specs.Forest.{Forest, nil, nodes}
+use Rattle.meaning.specs.Peg.{lit, seq, bytewise}
+use Rattle.meaning.specs.Forest.{nil, nodes}
 use Rattle.meaning.specs.Pdl.{WHITESPACE, block-comment, line-comment, COMMENT, skip, identifier, payload-identifier, body-identifier, integer, string, size-modifier}
 use Rattle.grammar.specs.Matching.{Steps}
+use Rattle.grammar.specs.Silence.{none-of}
 use Rattle.grammar.specs.Drawing.{Follows, blank, leaf}
-use Rattle.lexis.specs.Leaves.{silent, none-of, skip-none, lit-none, identifier-leaf, payload-identifier-leaf, body-identifier-leaf, integer-leaf, string-leaf, size-modifier-leaf}
+use Rattle.lexis.specs.Leaves.{skip-none, lit-none, identifier-leaf, payload-identifier-leaf, body-identifier-leaf, integer-leaf, string-leaf, size-modifier-leaf}
 use Rattle.spans.specs.Spans.{spanOf}
 use Rattle.spans.specs.Drawn.{leafAt}
 

@@ -1,7 +1,7 @@
 -- Where a list ends, from where its last item ends: blanks and then a comma or none.
 use Prim.Native.Nat.{ℕ, _+_}
 use native.Mathlib.Omega.{arith}
-use mathlib.Core.Path.{_≡_, refl, ap, subst, sym, _∙_}
+use mathlib.Core.Path.{_≡_, ap, sym, _∙_}
 use mathlib.Core.List.{List}
 use mathlib.Core.Bool.{true, false}
 use lib.ListN.{drop}
@@ -9,66 +9,13 @@ use lib.Seq.{drop-drop}
 use Rattle.meaning.specs.declared.Match.{Match}
 use Rattle.meaning.specs.Rules.{Rule, is}
 use Rattle.meaning.specs.Peg.{Peg, seq, star, opt, run, bytewise, hit, taken}
-use Rattle.meaning.specs.Pdl.{text, _~_, repeat, skip, WHITESPACE, COMMENT, block-comment, line-comment}
-use Rattle.grammar.specs.Matching.{Reads, eats}
-use Rattle.grammar.specs.Hits.{taken-hushed, taken-after, taken-seq, hit-opt, hit-star}
-use Rattle.grammar.specs.Stars.{star-none, star-ends}
+use Rattle.meaning.specs.Pdl.{text, _~_, repeat, skip, COMMENT}
+use Rattle.grammar.specs.Matching.{Reads}
+use Rattle.grammar.specs.Hits.{taken-seq, hit-opt}
 use Rattle.grammar.specs.Lists.{repeat-end}
-use Rattle.lexis.specs.Skips.{hit-skip}
+use Rattle.lexis.specs.Skips.{hit-skip, skip-twice}
 use Rattle.walk.specs.Turns.{turn, eats-turn, past, hit-blank-opt, hit-turns}
 use Rattle.walk.specs.Listing.{inside, inside-hit, last, listOf}
-
--- ---- blanks behind blanks are none
-abbrev spaces : Peg
-spaces = star (bytewise WHITESPACE)
-
-abbrev noted : Peg
-noted = seq (bytewise COMMENT) spaces
-
-eats-space : eats (bytewise WHITESPACE) ≡ true
-unfolding WHITESPACE
-eats-space = refl
-
-eats-noted : eats noted ≡ true
-unfolding COMMENT block-comment line-comment
-eats-noted = refl
-
--- neither a space nor a comment stands here
-abbrev Bare : List ℕ → Type 0
-Bare u = (hit (run (bytewise WHITESPACE) u) ≡ false) × (hit (run noted u) ≡ false)
-
-skip-taken : (t : List ℕ) → taken (run (bytewise skip) t) ≡ taken (run spaces t) + taken (run (star noted) (drop (taken (run spaces t)) t))
-unfolding run skip
-skip-taken t =
-    taken-hushed (run (seq spaces (star noted)) t)
-    ∙ taken-seq spaces (star noted) t (hit-star (bytewise WHITESPACE) t) (hit-star noted (drop (taken (run spaces t)) t))
-
--- spaces end where none follows, and so does a comment with the spaces behind it
-spaces-end : (t : List ℕ) → hit (run (bytewise WHITESPACE) (drop (taken (run spaces t)) t)) ≡ false
-spaces-end t = star-ends (bytewise WHITESPACE) eats-space (λ u. Unit {0}) (λ u h q. tt) t tt .1
-
-noted-end : (t : List ℕ) → hit (run noted t) ≡ true → hit (run (bytewise WHITESPACE) (drop (taken (run noted t)) t)) ≡ false
-unfolding run
-noted-end t h =
-    subst (λ (u : List ℕ). hit (run (bytewise WHITESPACE) u) ≡ false)
-    (drop-drop (taken (run spaces (drop (taken (run (bytewise COMMENT) t)) t))) (taken (run (bytewise COMMENT) t)) t
-    ∙ ap (λ (n : ℕ). drop n t) (sym (taken-after (run (bytewise COMMENT) t) (λ u. run spaces u) t h)))
-    (spaces-end (drop (taken (run (bytewise COMMENT) t)) t))
-
-skip-ends : (t : List ℕ) → Bare (drop (taken (run (bytewise skip) t)) t)
-skip-ends t =
-    subst Bare
-    (drop-drop (taken (run (star noted) (drop (taken (run spaces t)) t))) (taken (run spaces t)) t ∙ ap (λ (n : ℕ). drop n t) (sym (skip-taken t)))
-    (star-ends noted eats-noted (λ u. hit (run (bytewise WHITESPACE) u) ≡ false) (λ u h q. noted-end u h) (drop (taken (run spaces t)) t) (spaces-end t))
-
-bare-skip : (u : List ℕ) → Bare u → taken (run (bytewise skip) u) ≡ 0
-bare-skip u h =
-    let a : taken (run spaces u) ≡ 0 = star-none (bytewise WHITESPACE) eats-space u (h .0) in
-    let b : taken (run (star noted) (drop (taken (run spaces u)) u)) ≡ 0 = ap (λ (n : ℕ). taken (run (star noted) (drop n u))) a ∙ star-none noted eats-noted u (h .1) in
-    omega (arith, skip-taken u, a, b)
-
-pub skip-twice : (t : List ℕ) → taken (run (bytewise skip) (drop (taken (run (bytewise skip) t)) t)) ≡ 0
-skip-twice t = bare-skip (drop (taken (run (bytewise skip) t)) t) (skip-ends t)
 
 -- ---- the last comma
 abbrev comma-taken : List ℕ → ℕ

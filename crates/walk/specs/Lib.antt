@@ -4,7 +4,6 @@ pub mod Counts
 pub mod Said
 pub mod DrawnItems
 pub mod Ready
-pub mod Repeats
 pub mod Turns
 pub mod Listing
 pub mod Ends

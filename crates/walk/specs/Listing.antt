@@ -10,7 +10,7 @@ use Rattle.meaning.specs.Forest.{Forest, nil, tree, _⊕_, nodes}
 use Rattle.meaning.specs.Pdl.{text, _~_, repeat, skip, WHITESPACE, COMMENT}
 use Rattle.grammar.specs.Hits.{taken-after, hit-seq}
 use Rattle.grammar.specs.Nodes.{nil-right, nodes-seq, nodes-rule, nodes-missed}
-use Rattle.lexis.specs.Leaves.{none-of}
+use Rattle.grammar.specs.Silence.{none-of}
 use Rattle.walk.specs.Turns.{hit-blank-opt, hit-turns}
 
 -- ---- items of x with commas between
