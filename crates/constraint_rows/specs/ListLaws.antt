@@ -2,14 +2,14 @@
 use Prim.Native.Nat.{ℕ, _+_, _-_, _^_, _≤_, _<_}
 use native.Mathlib.Omega.{arith}
 use mathlib.Core.Path.{_≡_, refl, ap, ap₂, subst, sym, _∙_}
-use mathlib.Core.List.{List, [], _∷_, _++_}
-use mathlib.Core.Bool.{Bool, true, false}
-use lib.ListN.{length, take, drop, length-drop}
+use mathlib.Core.List.{List, [], _∷_}
+use mathlib.Core.Bool.{true, false}
+use lib.ListN.{length, take, drop}
 use Rattle.meaning.specs.declared.Match.{Match}
 use Rattle.meaning.specs.declared.SourceLocation.{SourceLocation}
-use Rattle.meaning.specs.Peg.{Peg, run, bytewise, hit, taken}
-use Rattle.meaning.specs.Forest.{Forest, nil, _⊕_, nodes}
-use Rattle.meaning.specs.Pdl.{text, _~_, repeat, skip, identifier, alpha, constraint}
+use Rattle.meaning.specs.Peg.{run, bytewise, hit, taken}
+use Rattle.meaning.specs.Forest.{Forest, nil, _⊕_}
+use Rattle.meaning.specs.Pdl.{identifier, alpha, constraint}
 use Rattle.meaning.specs.Places.{placeAt}
 use Rattle.meaning.specs.Tables.{Table, Item, row}
 use Rattle.meaning.specs.Walk.{each, parse-constraint-list}
@@ -22,11 +22,11 @@ use Rattle.spans.specs.declared.ConstraintMatch.{ConstraintMatch}
 use Rattle.spans.specs.Drawn.{drawConstraint}
 use Rattle.walk.specs.declared.Walk.{Walk}
 use Rattle.walk.specs.declared.Number.{Number}
-use Rattle.walk.specs.State.{State, state, emit, emits, noted, with-constraint, Few, WroteConstraints}
+use Rattle.walk.specs.State.{State, state, emits, noted, with-constraint, Few, WroteConstraints}
 use Rattle.walk.specs.StateLaws.{emits-append, noted-counts}
 use Rattle.walk.specs.SaidLaws.{said-token, noted-few, wider-few}
 use Rattle.walk.specs.Said.{said, tokenNumber}
-use Rattle.walk.specs.Insides.{constraint-inside, InsideConstraint}
+use Rattle.walk.specs.Insides.{constraint-inside}
 use Rattle.walk.specs.Turns.{comma, rest, past, Over, past-from, first-item}
 use Rattle.walk.specs.Nexts.{FoundAt, draws-at, found, none-comma, none-item}
 use Rattle.constraint_rows.specs.Constraints.{rowWords, Ready}

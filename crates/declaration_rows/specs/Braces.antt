@@ -16,16 +16,12 @@ use Rattle.grammar.specs.Hits.{hit-before, hit-behind, taken-after}
 use Rattle.grammar.specs.Steps.{steps}
 use Rattle.grammar.specs.Nodes.{nil-right}
 use Rattle.grammar.specs.Drawing.{Draws, whole, opened, drawn, then, noted}
-use Rattle.grammar.specs.Bounds.{took-inside}
 use Rattle.lexis.specs.Skips.{skips}
 use Rattle.spans.specs.Parts.{gap, mark}
 
 -- where a list stands behind a head of n bytes at `at`
 abbrev pub listStart : List ℕ → ℕ → ℕ → ℕ
 listStart src at n = at + n + taken (run (bytewise skip) (drop (at + n) src))
-
-pub inside : (src : List ℕ) (at : ℕ) {g : Peg} {m : Match} {w : ℕ → Forest} → at ≤ length src → Draws g (drop at src) m w → at + taken m ≤ length src
-inside src at {g} {m} e d = omega (arith, e, took-inside src at e (d .reads))
 
 pub list-within : (src : List ℕ) (at n : ℕ) → at + n ≤ length src → listStart src at n ≤ length src
 list-within src at n e = omega (arith, skips (drop (at + n) src) .fits, length-drop (at + n) src)

@@ -29,7 +29,7 @@ use Rattle.constraint_rows.specs.Spanned.{spanItems}
 use Rattle.field_rows.specs.Counts.{soFar, soFar-count}
 use Rattle.declaration_rows.specs.declared.heads.Headed.{Headed}
 use Rattle.declaration_rows.specs.Kinds.{declared, Kind, kindOf, HeadOf, Numbered, n1, n2, n3, n4, n5, n6, number-is}
-use Rattle.declaration_rows.specs.Braces.{listStart, inside, list-within}
+use Rattle.declaration_rows.specs.Braces.{listStart, list-within}
 use Rattle.declaration_rows.specs.Members.{memberNodes, memberEnd, member-end-in, memberItems, membersOf, Membered, WroteMembers}
 use Rattle.declaration_rows.specs.Wholes.{declarationEnd, Whole, whole}
 use Rattle.declaration_rows.specs.Heads.{headItems, HeadAt, WroteHead, held-head, held-list, head-inside}
@@ -87,7 +87,7 @@ module _ (src : List ℕ) (at : ℕ) {p : SourceLocation} (kind : ℕ) {n : Walk
 
   -- ---- the head
   pub head-ends : at + taken (h .at) ≤ length src
-  head-ends = inside src at (w .ready .within) headed
+  head-ends = omega (arith, w .ready .within, took-inside src at (w .ready .within) (headed .reads))
 
   pub head-ready : HeadAt src at p h n
   head-ready =

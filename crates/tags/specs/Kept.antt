@@ -9,7 +9,7 @@ use borrow.Author.Tests.{lt-ltb}
 use Rattle.meaning.specs.declared.Match.{Match}
 use Rattle.meaning.specs.Choice.{pick}
 use Rattle.meaning.specs.Peg.{Peg, run, bytewise, hit, taken}
-use Rattle.meaning.specs.Forest.{Forest, nil, _⊕_, nodes}
+use Rattle.meaning.specs.Forest.{nil, _⊕_, nodes}
 use Rattle.grammar.specs.Matching.{Steps, eats}
 use Rattle.grammar.specs.Hits.{hit-before, hit-behind, taken-after}
 use Rattle.grammar.specs.Stars.{hit-pos}
