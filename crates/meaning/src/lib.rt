@@ -2,7 +2,7 @@
 // that the definitions and the code share.
 ghost use mathlib.Core.Path.{_≡_};
 ghost use Rattle.meaning.specs.Places.{location};
-ghost use Rattle.meaning.specs.Alignment.{fresh};
+ghost use Rattle.meaning.specs.Alignment.{MAX-CHUNK-WIDTH, fresh};
 
 // What a matcher answers: how far a try failed, plus 1 (0: none did), where it missed; how much it took, and the same mark,
 // where it matched.
@@ -66,6 +66,13 @@ pub struct Aligner {
 impl Aligner {
     // The widest chunk, in bits.
     pub const MAX_CHUNK_WIDTH: u64 = 64;
+
+    // The same as an answer, which holds the constant to the meaning's.
+    pub fn max_chunk_width() -> u64
+        ensures { λ r. ⌜ r ≡ MAX-CHUNK-WIDTH ⌝ }
+    {
+        Aligner::MAX_CHUNK_WIDTH
+    }
 
     // The state before the first field.
     pub fn new() -> Aligner
