@@ -108,8 +108,10 @@ class Copy:
         return Verdict(OPEN if status in (None, 3) else INVALID, self.first_error(said))
 
     def first_error(self, said: str) -> str:
-        lines = (line for line in said.splitlines() if ": error" in line)
-        return next(lines, "").replace(f"{self.top}/crates/", "")[:300]
+        """The first error, or the first function without a proof where the prover had made the proof by itself."""
+        errors = [line for line in said.splitlines() if ": error" in line]
+        unproved = [line for line in said.splitlines() if line.startswith("fn ") and not line.endswith(": proved")]
+        return next(iter(errors + unproved), "").replace(f"{self.top}/crates/", "")[:300]
 
     def output(self, crate: str, limit: int) -> Verdict:
         """Whether a program that is proved still writes what its file 'stdout' has."""
