@@ -50,9 +50,9 @@ def made(crate: Path, seed: int) -> List[Trial]:
 
 
 def explained(crate: Path) -> Set[Replacement]:
-    """The lines of equal programs: edits that may survive, each in a file that says why."""
+    """The lines that may survive, each in a file that says why: nearly always because the program is an equal one."""
     return {
         Replacement(part.file, part.old.strip(), part.new.strip())
-        for edit in (crate / "equal").glob("*.edit")
+        for edit in (crate / "survivors").glob("*.edit")
         for part in replacements(edit)
     }
