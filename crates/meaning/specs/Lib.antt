@@ -15,3 +15,5 @@ pub mod Alignment
 pub mod Feeding
 pub mod Everything
 pub mod Papers
+pub mod Moving
+pub mod Moved
