@@ -4,18 +4,19 @@ use Prim.Native.Nat.{ℕ, zero, suc, _+_, _-_, _≤_, _<_}
 use native.Mathlib.Omega.{arith}
 use mathlib.Core.Path.{_≡_, refl, sym, ap, ap₂, _∙_, subst}
 use mathlib.Core.List.{List, [], _∷_, _++_}
-use lib.ListN.{length, take, drop, length-drop}
+use lib.ListN.{length, getD, set, take, drop, length-drop}
 use lib.Seq.{drop-drop, drop-append-le, drop-append-seam, take-append-le}
 use Rattle.meaning.specs.declared.SourceLocation.{SourceLocation}
 use Rattle.meaning.specs.Forest.{Forest, nil, tree}
 use Rattle.meaning.specs.Places.{at, placeAt}
-use Rattle.meaning.specs.Tables.{Item, int, row}
+use Rattle.meaning.specs.Tables.{Table, Item, int, row}
 use Rattle.grammar.specs.Bounds.{Held}
 use Rattle.standing.specs.Joined.{movedBy}
-use Rattle.standing.specs.Places.{breaks, on-line, drawn-back, end-of, place-before, place-behind}
-use Rattle.standing.specs.Moves.{Move, Sort, stays, place, name, first, condition, unless-none, counted-first, head-word, words, sorts, moved-item, moved-items}
-use Rattle.standing.specs.MovedItems.{Carries}
-use Rattle.standing.specs.MovedParts.{moved-place, Carried, Grove, grove, also}
+use Rattle.meaning.specs.Moving.{Move, Sort, offset, line, column, name, first, condition, unless-none, unless-empty, moved-word, Moving, _moves-as_, moving, moved-words, moved-row, breaks}
+use Rattle.standing.specs.Places.{on-line, drawn-back, end-of, place-before, place-behind}
+use Rattle.standing.specs.MovedItems.{moved-item, moved-items, Carries}
+use Rattle.standing.specs.MovedRows.{moved-place, unless-some}
+use Rattle.standing.specs.MovedParts.{Carried, Grove, grove}
 
 -- ---- nothing moves
 abbrev pub still : Move
@@ -25,33 +26,38 @@ unless-still : (x : ℕ) → unless-none 0 x ≡ x
 unless-still zero = refl
 unless-still (suc x) = omega arith
 
-first-still : (x y : ℕ) → counted-first 0 x y ≡ x
-first-still x zero = refl
-first-still x (suc y) = omega arith
+first-still : (n x : ℕ) → unless-empty 0 n x ≡ x
+first-still zero x = refl
+first-still (suc n) x = omega arith
 
-words-still : (ss : List Sort) (ws : List ℕ) → words still ss ws ≡ ws
-words-still [] ws = refl
-words-still (s ∷ ss) [] = refl
-words-still (stays ∷ ss) (x ∷ ws) = ap (λ (vs : List ℕ). x ∷ vs) (words-still ss ws)
-words-still (place ∷ ss) (o ∷ []) = refl
-words-still (place ∷ ss) (o ∷ l ∷ []) = refl
-words-still (place ∷ ss) (o ∷ l ∷ c ∷ ws) = also (same o) (also (same l) (also none (words-still ss ws)))
-  where
-    same : (x : ℕ) → x + 0 ≡ x
-    same x = omega arith
+word-still : (ws : List ℕ) (s : Sort) (x : ℕ) → moved-word still ws s x ≡ x
+word-still ws offset x = omega arith
+word-still ws line x = omega arith
+word-still ws (column l) x = omega arith
+word-still ws name x = unless-still x
+word-still ws (first t n) x = first-still (getD ws n 0) x
+word-still ws condition x = unless-still x
 
-    none : c - 0 ≡ c
-    none = omega arith
-words-still (name ∷ ss) (x ∷ ws) = also (unless-still x) (words-still ss ws)
-words-still (first t ∷ ss) (x ∷ ws) = also (first-still x (head-word ws)) (words-still ss ws)
-words-still (condition ∷ ss) (x ∷ ws) = also (unless-still x) (words-still ss ws)
+set-same : (ws : List ℕ) (i : ℕ) → set ws i (getD ws i 0) ≡ ws
+set-same [] i = refl
+set-same (w ∷ ws) zero = refl
+set-same (w ∷ ws) (suc i) = ap (λ (vs : List ℕ). w ∷ vs) (set-same ws i)
+
+words-still : (ws : List ℕ) (ms : List Moving) → moved-words still ws ms ws ≡ ws
+words-still ws [] = refl
+words-still ws ((i moves-as s) ∷ ms) =
+    ap (moved-words still ws ms) (ap (set ws i) (word-still ws s (getD ws i 0)) ∙ set-same ws i) ∙ words-still ws ms
+
+row-still : (t : Table) (ws : List ℕ) → moved-row still t ws ≡ ws
+unfolding moved-row
+row-still t ws = words-still ws (moving t (getD ws 0 0))
 
 item-still : (x : Item) → moved-item still x ≡ x
 item-still (int p r) = ap (λ (q : ℕ). int q r) here
   where
     here : p + 0 ≡ p
     here = omega arith
-item-still (row t ws) = ap (row t) (words-still (sorts t (head-word ws)) ws)
+item-still (row t ws) = ap (row t) (row-still t ws)
 
 items-still : (xs : List Item) → moved-items still xs ≡ xs
 unfolding moved-items
@@ -103,10 +109,6 @@ drop-line r u = ap (λ (i : ℕ). drop i (r ++ 10 ∷ u)) here ∙ go r
     go : (r : List ℕ) → drop (suc (length r)) (r ++ 10 ∷ u) ≡ u
     go [] = refl
     go (x ∷ r) = go r
-
-unless-some : (k x : ℕ) → 0 < x → unless-none k x ≡ x + k
-unless-some k zero h = absurd (omega arith)
-unless-some k (suc x) h = refl
 
 -- how a text moves from behind p to behind q and a newline
 pub record Moves (p q : List ℕ) (m : Move) : Type 0 where

@@ -104,3 +104,9 @@ stands p q b {k} {F} {w} {v} h n vq vb cq cb =
 -- THE THEOREM, of nodes: q, a newline and b is whole, with the nodes of q and then those that b had behind p
 pub standing : (p q b : List ℕ) {k : ℕ} {F w v : Forest} → Head p F → length p + k ≡ length q + 1 → Whole q w → Whole (p ++ b) v → Stands p q b k (placed 0 F) w v
 standing p q b h n x y = stands p q b h n (x .good) (y .good) (to-core x) (to-core y)
+
+-- a source that p begins: the nodes of p, and those behind it
+pub split : (p b : List ℕ) {F v : Forest} → Head p F → Whole (p ++ b) v → (x : Forest) × Whole (p ++ b) (placed 0 F ⊕ x)
+split p b h y =
+    let n = standing p (p ++ b) b {k = length b + 1} h (omega (arith, length-append p b)) y y in
+    (n .new, rw (sym (n .follows .is)) y)

@@ -16,11 +16,9 @@ use Rattle.meaning.specs.Tables.{Item, int}
 use Rattle.meaning.specs.Walk.{Part, absent, node, part, orPart, following, each, place, name, unquoted, value, optional, number}
 use Rattle.grammar.specs.Bounds.{Held}
 use Rattle.standing.specs.Joined.{movedBy}
-use Rattle.standing.specs.Moves.{Move, Sort, stays, words, place-sorts, name-sorts, unless-none, moved-items}
-use Rattle.standing.specs.MovedItems.{Carries, carries-none, carries-++}
-
-abbrev pub moved-place : Move → SourceLocation → SourceLocation
-moved-place m p = at (p .offset + m .bytes) (p .line + m .lines) (p .column - m .loses (p .line))
+use Rattle.meaning.specs.Moving.{Move, unless-none}
+use Rattle.standing.specs.MovedItems.{moved-items, Carries, carries-none, carries-++}
+use Rattle.standing.specs.MovedRows.{moved-place, Place, place-of, Name, named, name-of, Number, number-of}
 
 -- the bytes from a to e of `src` stand in `to`, moved
 pub record Carried (src to : List ℕ) (a e : ℕ) (m : Move) : Type 0 where
@@ -81,19 +79,6 @@ module _ {a e k : ℕ} where
   twin-following bare = bare
   twin-following (grown x y i j) = j
 
--- ---- rows: the words vs are the words ws, moved as the sorts say
-pub record Turned (m : Move) (ss : List Sort) (vs ws : List ℕ) : Type 0 where
-  pub is : vs ≡ words m ss ws
-
-pub also : {x y : ℕ} {xs ys : List ℕ} → x ≡ y → xs ≡ ys → x ∷ xs ≡ y ∷ ys
-also e h = ap₂ (λ (a : ℕ) (b : List ℕ). a ∷ b) e h
-
-pub turned-all : (m : Move) (ws : List ℕ) → Turned m [] ws ws
-turned-all m ws = record { is = refl }
-
-pub turned-same : {m : Move} {ss : List Sort} {vs ws : List ℕ} {x y : ℕ} → x ≡ y → Turned m ss vs ws → Turned m (stays ∷ ss) (x ∷ vs) (y ∷ ws)
-turned-same e h = record { is = also e (h .is) }
-
 module _ {src to : List ℕ} {a e : ℕ} {m : Move} (c : Carried src to a e m) where
   pub value-moved : {p q : Part} → Twin a e (m .bytes) p q → value to p ≡ value src q
   value-moved (gone g) = refl
@@ -104,35 +89,26 @@ module _ {src to : List ℕ} {a e : ℕ} {m : Move} (c : Carried src to a e m) w
   number-moved (gone g) = record { is = refl }
   number-moved (here (peer {s} {l} x y i j)) = record { is = ap (λ (t : List ℕ). int (s + m .bytes) (reasonOf (convert t)) ∷ []) (c .texts s l x y) }
 
-  -- words 1 to 6, and what follows them
-  pub place-moved : (s l : ℕ) {ss : List Sort} {vs ws : List ℕ} → a ≤ s → s + l ≤ e → Turned m ss vs ws
-      → Turned m (place-sorts ++ ss) (place to (s + m .bytes) l ++ vs) (place src s l ++ ws)
-  place-moved s l x y h =
-      let p = c .places s x (omega arith) in
+  -- the words of a place, of a name and of an optional number
+  pub place-moved : (s l : ℕ) → a ≤ s → s + l ≤ e → Place m (place to (s + m .bytes) l) (place src s l)
+  place-moved s l x y =
       let i : s + m .bytes + l ≡ s + l + m .bytes = omega arith in
-      let q = ap (placeAt to) i ∙ c .places (s + l) (omega arith) y in
-      record {
-        is =
-            also (ap (λ (z : SourceLocation). z .offset) p) (also (ap (λ (z : SourceLocation). z .line) p) (also (ap (λ (z : SourceLocation). z .column) p)
-            (also (ap (λ (z : SourceLocation). z .offset) q) (also (ap (λ (z : SourceLocation). z .line) q) (also (ap (λ (z : SourceLocation). z .column) q) (h .is))))));
-      }
+      place-of (c .places s x (omega arith)) (ap (placeAt to) i ∙ c .places (s + l) (omega arith) y)
 
-  pub name-moved : {p q : Part} {ss : List Sort} {vs ws : List ℕ} → Twin a e (m .bytes) p q → Turned m ss vs ws
-      → Turned m (name-sorts ++ ss) (name p ++ vs) (name q ++ ws)
-  name-moved (gone g) h = record { is = also refl (also refl (h .is)) }
-  name-moved (here (peer {s} x y i j)) h = record { is = also (sym (c .some s x)) (also refl (h .is)) }
+  pub name-moved : {p q : Part} → Twin a e (m .bytes) p q → Name m (name p) (name q)
+  name-moved (gone g) = named 0 0
+  name-moved (here (peer {s} {l} x y i j)) = name-of l (sym (c .some s x))
 
   -- a text without its quotes, or else a name
-  pub unquoted-moved : {p q p′ q′ : Part} {ss : List Sort} {vs ws : List ℕ} → Twin a e (m .bytes) p q → Twin a e (m .bytes) p′ q′ → Turned m ss vs ws
-      → Turned m (name-sorts ++ ss) (pick (p .found) (unquoted p) (name p′) ++ vs) (pick (q .found) (unquoted q) (name q′) ++ ws)
-  unquoted-moved (gone g) f h = name-moved f h
-  unquoted-moved (here (peer {s} x y i j)) f h =
+  pub other-moved : {p q p′ q′ : Part} → Twin a e (m .bytes) p q → Twin a e (m .bytes) p′ q′
+      → Name m (pick (p .found) (unquoted p) (name p′)) (pick (q .found) (unquoted q) (name q′))
+  other-moved (gone g) f = name-moved f
+  other-moved (here (peer {s} {l} x y i j)) f =
       let z : s + m .bytes + 1 ≡ s + 1 + m .bytes = omega arith in
-      record { is = also (z ∙ sym (c .some (s + 1) (omega arith))) (also refl (h .is)) }
+      name-of (l - 2) (z ∙ sym (c .some (s + 1) (omega arith)))
 
-  pub optional-moved : {p q : Part} {ss : List Sort} {vs ws : List ℕ} → Twin a e (m .bytes) p q → Turned m ss vs ws
-      → Turned m (stays ∷ stays ∷ ss) (optional to p ++ vs) (optional src q ++ ws)
-  optional-moved t h = turned-same (ap (λ (b : Bool). pick b 1 0) (twin-found t)) (turned-same (value-moved t) h)
+  pub optional-moved : {p q : Part} → Twin a e (m .bytes) p q → Number (optional to p) (optional src q)
+  optional-moved t = number-of (ap (λ (b : Bool). pick b 1 0) (twin-found t)) (value-moved t)
 
   -- ---- the items of the nodes of a rule
   pub each-moved : (r : Rule) (f g : Part → List Item) → ((p q : Part) → Peer a e (m .bytes) p q → Carries m (f p) (g q))
