@@ -1,9 +1,9 @@
 //! The oracle: the unchanged front end of google/pdl, asked what document 01 asks of the port.
 //!
 //! `answer` reads a source, `extents` matches single rules, `layout` feeds a declaration to the
-//! aligner, `print` writes answers down, `sources` makes inputs, `cases` holds those that were
-//! written by hand and `list` those whose answers are kept. `port` is the proved port, which the
-//! comparisons hold against all this, and `tally` counts.
+//! aligner, `moving` says where rows go when more is added, `print` writes answers down, `sources`
+//! makes inputs, `cases` holds those that were written by hand and `list` those whose answers are
+//! kept. `port` is the proved port, which the comparisons hold against all this, and `tally` counts.
 
 // The modules `ast`, `parser` and `alignment`, read from where they stand. They have to be at
 // the root of this crate, for the parser says `crate::ast`.
@@ -16,6 +16,7 @@ pub mod extents;
 pub mod integer;
 pub mod layout;
 pub mod list;
+pub mod moving;
 #[cfg(feature = "port")]
 pub mod port;
 pub mod print;

@@ -6,11 +6,13 @@ mod matched;
 mod mismatched;
 mod not_utf8;
 mod readings;
+mod seams;
 
 pub use layouts::LAYOUTS;
 pub use limits::sources as at_limits;
 pub use not_utf8::sources as not_utf8;
 pub use readings::READINGS;
+pub use seams::{APPENDED, INSERTED};
 
 /// Sources that the grammar matches: accepted, or refused 4.
 pub fn matched() -> Vec<Vec<u8>> {

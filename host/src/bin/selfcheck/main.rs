@@ -1,12 +1,13 @@
 //! Checks the oracle against itself, the unchanged Rust and the readings of document 01.
 
 mod aligning;
+mod moving;
 mod reading;
 
 use aligning::{CALL, DAMAGED, LAYOUT};
 use host::aligner::{Aligner, Call, Room};
 use host::answer::{answer, read, read_into, Limits, Words};
-use host::cases::{self, LAYOUTS, READINGS};
+use host::cases::{self, APPENDED, INSERTED, LAYOUTS, READINGS};
 use host::integer::convert;
 use host::print;
 use host::reading::Refusal;
@@ -56,11 +57,14 @@ impl Run {
                 assert_eq!(print::layouts(&reading.expect(rest)), *lines, "{rest:?}");
             });
         }
+        APPENDED.iter().for_each(|case| self.tally.check(|| moving::append(case)));
+        INSERTED.iter().for_each(|case| self.tally.check(|| moving::insert(case)));
         self.tally.check(lent_tables);
         self.tally.check(aligning::damaged_rows);
         self.tally.check(converter);
         self.tally.check(aligner);
         println!("readings: {} sources, {} layouts", READINGS.len(), LAYOUTS.len());
+        println!("moved: {} pairs, {} cuts", APPENDED.len(), INSERTED.len());
     }
 
     fn source(&mut self, source: &[u8], seen: &mut Seen) {
