@@ -8,5 +8,5 @@ mod texts;
 
 pub use aligner::{lay_out, Aligner, Laid};
 pub use matcher::{extent, extent_of};
-pub use reader::read;
+pub use reader::{read, reading};
 pub use texts::{convert, valid_prefix};

@@ -2,7 +2,7 @@
 
 use super::entries::pdl_read;
 use crate::answer::Words;
-use crate::reading::Refusal;
+use crate::reading::{Reading, Refusal, ROW_WORDS};
 
 /// Reads a source into lent tables, and answers the words beside them.
 pub fn read(source: &[u8], tables: [&mut [u64]; 5]) -> Words {
@@ -33,4 +33,21 @@ pub fn read(source: &[u8], tables: [&mut [u64]; 5]) -> Words {
     };
     let [place, reason] = refusal;
     Words { refusal: Refusal { number, place, reason }, counts, endianness }
+}
+
+/// Reads a source into tables of so many rows, and answers what it wrote there.
+pub fn reading(source: &[u8], rows: [usize; 5]) -> Result<Reading, Refusal> {
+    let mut tables: [Vec<u64>; 5] =
+        std::array::from_fn(|table| vec![0; rows[table] * ROW_WORDS[table]]);
+    let Words { refusal, counts, endianness } =
+        read(source, tables.each_mut().map(Vec::as_mut_slice));
+    if refusal.number != 0 {
+        return Err(refusal);
+    }
+    for (table, words) in tables.iter_mut().enumerate() {
+        words.truncate(counts[table] as usize * ROW_WORDS[table]);
+    }
+    let reading = Reading { endianness, tables };
+    assert_eq!(reading.counts(), counts, "the counts of rows that were lent");
+    Ok(reading)
 }

@@ -13,13 +13,23 @@ pub fn valid(rng: &mut Rng) -> String {
 pub fn with_declarations(rng: &mut Rng, count: usize) -> String {
     let mut writer = Writer::new(rng);
     writer.header();
-    for _ in 0..count {
-        writer.declaration();
-    }
-    writer.finish()
+    writer.declarations(count)
+}
+
+/// So many declarations without an endianness line.
+pub fn without_header(rng: &mut Rng, count: usize) -> String {
+    Writer::new(rng).declarations(count)
 }
 
 impl Writer<'_> {
+    /// Writes so many declarations and ends the source.
+    fn declarations(mut self, count: usize) -> String {
+        for _ in 0..count {
+            self.declaration();
+        }
+        self.finish()
+    }
+
     fn declaration(&mut self) {
         match self.rng.below(8) {
             0 => self.enumeration(),

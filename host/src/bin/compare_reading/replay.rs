@@ -1,10 +1,10 @@
 //! The fixed list, and P1 to P9 with their like, through the port: the lines that 01's program
 //! prints, byte for byte.
 
-use host::answer::{Limits, Words};
+use host::answer::Limits;
 use host::cases::READINGS;
 use host::list::{self, Entry};
-use host::reading::{Reading, Refusal, ROW_WORDS};
+use host::reading::{Reading, Refusal};
 use host::tally::Tally;
 use host::{port, print};
 use std::{fs, io};
@@ -33,15 +33,5 @@ fn program(source: &[u8]) -> Result<Reading, Refusal> {
     if source.len() > bytes {
         return Err(Refusal::new(1, bytes as u64));
     }
-    let mut tables: [Vec<u64>; 5] =
-        std::array::from_fn(|table| vec![0; rows[table] * ROW_WORDS[table]]);
-    let Words { refusal, counts, endianness } =
-        port::read(source, tables.each_mut().map(Vec::as_mut_slice));
-    if refusal.number != 0 {
-        return Err(refusal);
-    }
-    for (table, words) in tables.iter_mut().enumerate() {
-        words.truncate(counts[table] as usize * ROW_WORDS[table]);
-    }
-    Ok(Reading { endianness, tables })
+    port::reading(source, rows)
 }
