@@ -22,14 +22,14 @@ abbrev pub Held : ℕ → ℕ → Forest → Type 0
 Held lo hi nil = Unit {0}
 Held lo hi (tree r s l k more) = (lo ≤ s) × ((s + l ≤ hi) × (Held lo hi k × Held lo hi more))
 
-wider : (a b c d : ℕ) (w : Forest) → c ≤ a → b ≤ d → Held a b w → Held c d w
+pub wider : (a b c d : ℕ) (w : Forest) → c ≤ a → b ≤ d → Held a b w → Held c d w
 wider a b c d nil p q h = tt
 wider a b c d (tree r s l k more) p q h =
     let x : a ≤ s = h .0 in
     let y : s + l ≤ b = h .1 .0 in
     (omega arith, (omega arith, (wider a b c d k p q (h .1 .1 .0), wider a b c d more p q (h .1 .1 .1))))
 
-held-⊕ : (a b : ℕ) (v w : Forest) → Held a b v → Held a b w → Held a b (v ⊕ w)
+pub held-⊕ : (a b : ℕ) (v w : Forest) → Held a b v → Held a b w → Held a b (v ⊕ w)
 held-⊕ a b nil w h k = k
 held-⊕ a b (tree r s l kids more) w h k = (h .0, (h .1 .0, (h .1 .1 .0, held-⊕ a b more w (h .1 .1 .1) k)))
 
@@ -42,7 +42,7 @@ pub held-right : (a b : ℕ) (v w : Forest) → Held a b (v ⊕ w) → Held a b 
 held-right a b nil w h = h
 held-right a b (tree r s l k more) w h = held-right a b more w (h .1 .1 .1)
 
-held-clean : (a b : ℕ) (w : Forest) → Held a b w → Held a b (clean w)
+pub held-clean : (a b : ℕ) (w : Forest) → Held a b w → Held a b (clean w)
 held-clean a b nil h = tt
 held-clean a b (tree r s l k more) h = go (is Rule.COMMENT r) (held-clean a b k (h .1 .1 .0)) (held-clean a b more (h .1 .1 .1))
   where

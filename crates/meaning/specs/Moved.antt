@@ -4,12 +4,17 @@ use Prim.Native.Nat.{ℕ}
 use Prim.Native.String.{String}
 use mathlib.Core.Path.{_≡_, refl}
 use mathlib.Core.List.{List, [], _∷_, _++_}
+use mathlib.Core.Logic.{inl, inr}
 use lib.ListN.{length, drop}
 use Rattle.meaning.specs.Quoted.{bytes}
+use Rattle.meaning.specs.Rules.{Rule}
+use Rattle.meaning.specs.Forest.{Forest, eval, forest}
+use Rattle.meaning.specs.Pdl.{file}
 use Rattle.meaning.specs.Places.{placeAt}
 use Rattle.meaning.specs.Tables.{Table, Item, rowsOf, count}
+use Rattle.meaning.specs.Walk.{part}
 use Rattle.meaning.specs.Reading.{Reading, refused, accepted, reading}
-use Rattle.meaning.specs.Moving.{Move, moved-row, moved-rows, breaks, appended, inserted}
+use Rattle.meaning.specs.Moving.{Move, moved-row, moved-rows, breaks, appended, Ends, inserted}
 use Rattle.meaning.specs.Everything.{everything}
 use Rattle.meaning.specs.Papers.{lines}
 
@@ -102,6 +107,18 @@ pub all-appended : moved-lines (appended old keyword (counts old)) (λ t. 0) (it
     ∷ "M 2 418 8 27 422 8 31" ∷ [])
 unfolding everything breaks moved-row moved-rows
 all-appended = refl
+
+-- ---- the cut stands behind a declaration; a test declaration's end is one too
+abbrev file-nodes : List ℕ → Forest
+file-nodes s = part Rule.file (forest (eval file 0 s)) .kids
+
+pub cut-there : Ends (length before-cut) (file-nodes old)
+unfolding everything
+cut-there = inr (inl (refl, refl))
+
+pub cut-behind-test : Ends (length (keyword ++ added)) (file-nodes (keyword ++ added))
+unfolding everything
+cut-behind-test = inr (inr (inr (inr (inr (inr (inr (inr (inr (inl (refl, refl))))))))))
 
 -- ---- inserted at the cut: what stood behind it, on its line, in column 23 and later
 pub all-inserted : moved-lines (inserted (placeAt old (length before-cut)) added (counts (keyword ++ added))) (counts before-cut) (items old) ≡ written (

@@ -1,11 +1,18 @@
 -- Moving (01, 'Rows', last paragraph): what becomes of each word of a row whose text stands behind more text than before, and
 -- which itself stands behind more rows.
 use Prim.Native.Nat.{ℕ, zero, suc, _+_, _-_}
+use mathlib.Core.Path.{_≡_}
+use mathlib.Core.Bool.{Bool, true, not}
+use mathlib.Core.Logic.{_⊎_}
 use mathlib.Core.List.{List, [], _∷_, _++_}
 use lib.Dec.{eqb}
 use lib.ListN.{length, getD, set}
 use Rattle.meaning.specs.declared.SourceLocation.{SourceLocation}
 use Rattle.meaning.specs.Choice.{pick}
+use Rattle.meaning.specs.Quoted.{bytes}
+use Rattle.meaning.specs.Rules.{Rule}
+use Rattle.meaning.specs.Forest.{Forest, nil, tree}
+use Rattle.meaning.specs.Walk.{kinds, kindIn}
 use Rattle.meaning.specs.Tables.{Table}
 use Rattle.meaning.specs.Rows.{row-kind, start-offset, start-line, start-column, end-offset, end-line, end-column, declaration-id-offset, declaration-other-offset, declaration-first, declaration-count, declaration-first-constraint, declaration-constraint-count, field-a-offset, field-b-offset, field-c-offset, field-first-constraint, field-constraint-count, field-condition, tag-id-offset, constraint-id-offset, constraint-tag-offset}
 
@@ -100,11 +107,24 @@ unfoldable pub breaks : List ℕ → ℕ
 breaks [] = 0
 breaks (b ∷ bs) = pick (eqb b 10) 1 0 + breaks bs
 
+-- 'the keyword line .. with its newline'
+pub data KeywordLine : List ℕ → Type 0 where
+  little : KeywordLine (bytes "little_endian_packets\n")
+  big : KeywordLine (bytes "big_endian_packets\n")
+
 -- demand 3, declarations that stood behind the keyword line and stand now behind the old source and a newline: 'offsets grow by the
 -- old source's length plus 1 less the keyword line's length with its newline, lines by the old source's LF count; columns stay';
 -- 'by the old count of the table they point into'
 abbrev pub appended : List ℕ → List ℕ → (Table → ℕ) → Move
 appended old keyword counts = record { bytes = length old + 1 - length keyword; lines = breaks old; loses = λ l. 0; before = counts }
+
+-- W12, a cut 'directly after a declaration's last byte', a test declaration's too: one of these nodes ends there
+abbrev pub declares : Rule → Bool
+declares r = not (eqb (kindIn (Rule.test-declaration ∷ kinds) r 1) 0)
+
+abbrev pub Ends : ℕ → Forest → Type 0
+Ends cut nil = ⊥
+Ends cut (tree r s l k more) = ((declares r ≡ true) × (s + l ≡ cut)) ⊎ Ends cut more
 
 -- W12, what stood behind the cut and stands now behind the inserted text between two newlines: 'by the inserted bytes, lines and
 -- row counts', 'and a place on the cut's own line loses the cut's column'

@@ -1,15 +1,15 @@
 -- What a source reads as, with refusals 1 to 5 in 01's order, and what the lent tables hold afterwards.
-use Prim.Native.Nat.{ℕ, zero, suc, _+_}
+use Prim.Native.Nat.{ℕ, zero, suc, _+_, _-_}
 use mathlib.Core.List.{List, [], _∷_}
 use mathlib.Core.Bool.{Bool, true, false}
-use lib.ListN.{length, take, drop}
+use lib.ListN.{length, getD, take, drop}
 use lib.Dec.{ltb, eqb}
 use Rattle.meaning.specs.Choice.{pick}
 use Rattle.meaning.specs.Utf8.{valid}
 use Rattle.meaning.specs.Peg.{run, hit, taken}
 use Rattle.meaning.specs.Forest.{Forest, Out, missed, took, eval}
 use Rattle.meaning.specs.Pdl.{file, file-start, file-line, file-head}
-use Rattle.meaning.specs.Tables.{Table, Item, count, firstBad, Lent, fill, short, needed, all}
+use Rattle.meaning.specs.Tables.{Table, number, size, Item, count, firstBad, rows-in, Lent, lent, fill, short, needed, all}
 use Rattle.meaning.specs.Rows.{endianness-size}
 use Rattle.meaning.specs.Walk.{items, endianness}
 
@@ -75,6 +75,13 @@ settle (accepted e xs) l = pick (eqb (short all xs l) 0) (stored e xs l) (refusa
 
 unfoldable pub answer : List ℕ → Lent → Outcome
 answer src l = settle (reading src) l
+
+-- ---- what a caller finds in a table afterwards: as many rows as were counted
+abbrev pub counts-of : Outcome → Table → ℕ
+counts-of o t = getD (o .answer .counts) (number t - 1) 0
+
+abbrev pub rows-left : Outcome → Table → List (List ℕ)
+rows-left o t = rows-in (size t) (counts-of o t) (lent t (o .left))
 
 -- ---- the text of a name: a part of the source, with 6 an empty one
 abbrev pub name-number : List ℕ → ℕ → ℕ → ℕ

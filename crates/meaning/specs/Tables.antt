@@ -72,6 +72,11 @@ unfoldable pub flat : List (List ℕ) → List ℕ
 flat [] = []
 flat (r ∷ rs) = r ++ flat rs
 
+-- the first so many rows that words hold
+unfoldable pub rows-in : ℕ → ℕ → List ℕ → List (List ℕ)
+rows-in size zero t = []
+rows-in size (suc k) t = take size t ∷ rows-in size k (drop size t)
+
 -- a table holds as many rows as fit whole
 abbrev pub room : ℕ → List ℕ → ℕ
 room size t = length t / size

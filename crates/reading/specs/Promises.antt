@@ -4,8 +4,8 @@ use native.Mathlib.Omega.{arith}
 use mathlib.Core.Path.{_≡_, refl, ap, sym, _∙_}
 use mathlib.Core.List.{List, []}
 use mathlib.Core.Bool.{Bool, true, false}
-use borrow.Author.Tests.{eq-eqb, eqb-true}
-use lib.ListN.{length, take}
+use borrow.Author.Tests.{eq-eqb, eqb-true, eqb-false}
+use lib.ListN.{length, take, drop}
 use lib.Dec.{ltb, eqb}
 use Rattle.meaning.specs.Choice.{pick}
 use Rattle.meaning.specs.Utf8.{valid}
@@ -21,7 +21,8 @@ use Rattle.reading.specs.Parted.{sized}
 use Rattle.reading.specs.Matched.{whole}
 use Rattle.reading.specs.Surveys.{surveyed}
 use Rattle.reading.specs.Accepts.{Accepts, reads, accepts}
-use Rattle.reading.specs.Rooms.{Roomy, roomy, none-short, first-words}
+use Rattle.ast.specs.RowLaws.{Sized, length-puts}
+use Rattle.reading.specs.Rooms.{Roomy, roomy, none-short, first-words, words-behind}
 
 -- ---- one outcome satisfies it
 pub one-outcome : (src : List ℕ) (l : Lent) (o p : Outcome) → o ≡ answer src l → p ≡ answer src l → o ≡ p
@@ -123,13 +124,35 @@ lent-filled xs l Table.tags = refl
 lent-filled xs l Table.constraints = refl
 lent-filled xs l Table.comments = refl
 
+-- every row of a source has its table's size
+pub rows-sized : (src : List ℕ) (t : Table) → Sized (size t) (rowsOf t (items src (whole src)))
+rows-sized src t = sized t (of-comments src (whole src)) (of-toplevel src (part Rule.file (clean (whole src)) .kids) [])
+
 -- the words of an accepted reading's rows are those of the forest's rows, whatever the tables held
 pub words : (src : List ℕ) (l : Lent) → Acceptable src l → (t : Table)
     → take (count t (items src (whole src)) * size t) (lent t (answer src l .left)) ≡ flat (rowsOf t (items src (whole src)))
 words src l h t =
     ap (λ (o : Outcome). take (count t (items src (whole src)) * size t) (lent t (o .left))) (rows src l h)
     ∙ ap (take (count t (items src (whole src)) * size t)) (lent-filled (items src (whole src)) l t)
-    ∙ first-words (items src (whole src)) l t (sized t (of-comments src (whole src)) (of-toplevel src (part Rule.file (clean (whole src)) .kids) [])) (h .tables t)
+    ∙ first-words (items src (whole src)) l t (rows-sized src t) (h .tables t)
+
+-- 'Words past the last row written keep their contents', and no table gets longer or shorter, accepted or refused
+pub words-past : (src : List ℕ) (l : Lent) → Acceptable src l → (t : Table)
+    → drop (count t (items src (whole src)) * size t) (lent t (answer src l .left)) ≡ drop (count t (items src (whole src)) * size t) (lent t l)
+words-past src l h t =
+    ap (λ (o : Outcome). drop (count t (items src (whole src)) * size t) (lent t (o .left))) (rows src l h)
+    ∙ ap (drop (count t (items src (whole src)) * size t)) (lent-filled (items src (whole src)) l t)
+    ∙ words-behind (items src (whole src)) l t (rows-sized src t) (h .tables t)
+
+pub same-lengths : (src : List ℕ) (l : Lent) (t : Table) → length (lent t (answer src l .left)) ≡ length (lent t l)
+same-lengths src l t = go (eqb (answer src l .answer .number) 0) refl
+  where
+    go : (b : Bool) → eqb (answer src l .answer .number) 0 ≡ b → length (lent t (answer src l .left)) ≡ length (lent t l)
+    go false e = ap (λ (k : Lent). length (lent t k)) (orderly l src .tables (eqb-false (answer src l .answer .number) 0 e))
+    go true e =
+        let a : Acceptable src l = accepted-only src l (eqb-true (answer src l .answer .number) 0 e) in
+        ap (λ (o : Outcome). length (lent t (o .left))) (rows src l a) ∙ ap length (lent-filled (items src (whole src)) l t)
+        ∙ length-puts (size t) 0 (rowsOf t (items src (whole src))) (lent t l) (rows-sized src t)
 
 module _ (src : List ℕ) (l l' : Lent) (longer : (t : Table) → room (size t) (lent t l) ≤ room (size t) (lent t l')) where
   roomier : (xs : List Item) → Roomy xs l → Roomy xs l'

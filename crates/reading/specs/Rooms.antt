@@ -7,7 +7,7 @@ use mathlib.Core.List.{List, [], _∷_}
 use mathlib.Core.Bool.{Bool, true, false}
 use borrow.Author.Tests.{le-ltb, ltb-false}
 use lib.ListN.{length, take, drop, length-append}
-use lib.Seq.{take-at}
+use lib.Seq.{take-at, drop-at}
 use lib.Dec.{ltb}
 use Rattle.meaning.specs.Choice.{pick}
 use Rattle.meaning.specs.Tables.{Table, size, Item, rowsOf, count, flat, room, Lent, lent, filled, short, all}
@@ -63,3 +63,11 @@ first-words xs l t z h =
     let k : count t xs * size t ≤ length (lent t l) = le-div-iff-mul-le (some-words t) .0 h in
     ap (take (count t xs * size t)) (puts-all (size t) (rowsOf t xs) (lent t l) z k)
     ∙ take-at (flat (rowsOf t xs)) (drop (count t xs * size t) (lent t l)) (count t xs * size t) (length-flat (size t) (rowsOf t xs) z)
+
+-- and the words behind them are those that were lent
+pub words-behind : (xs : List Item) (l : Lent) (t : Table) → Sized (size t) (rowsOf t xs) → count t xs ≤ room (size t) (lent t l)
+    → drop (count t xs * size t) (filled xs l t) ≡ drop (count t xs * size t) (lent t l)
+words-behind xs l t z h =
+    let k : count t xs * size t ≤ length (lent t l) = le-div-iff-mul-le (some-words t) .0 h in
+    ap (drop (count t xs * size t)) (puts-all (size t) (rowsOf t xs) (lent t l) z k)
+    ∙ drop-at (flat (rowsOf t xs)) (drop (count t xs * size t) (lent t l)) (count t xs * size t) (length-flat (size t) (rowsOf t xs) z)

@@ -7,35 +7,18 @@ use mathlib.Core.Path.{_≡_, refl, sym, ap, ap₂, _∙_, fun-ext}
 use mathlib.Core.List.{List, [], _∷_, _++_}
 use lib.ListN.{length, getD, take, drop, length-append}
 use lib.Seq.{take-take, take-append-seam, drop-append-seam, take-add}
-use Rattle.meaning.specs.Rules.{Rule}
-use Rattle.meaning.specs.Forest.{clean}
-use Rattle.meaning.specs.Tables.{Table, number, size, Item, rowsOf, count, flat, room, Lent, lent, all}
+use Rattle.meaning.specs.Tables.{Table, number, size, Item, rowsOf, count, flat, rows-in, room, Lent, lent, all}
 use Rattle.meaning.specs.Rows.{row-kind}
-use Rattle.meaning.specs.Walk.{part, items, endianness}
-use Rattle.meaning.specs.Reading.{accepted, longest, reading, Outcome, counted, answer}
-use Rattle.meaning.specs.Moving.{Move, moved-rows, appended}
+use Rattle.meaning.specs.Walk.{items, endianness}
+use Rattle.meaning.specs.Reading.{accepted, longest, reading, Outcome, counted, answer, counts-of, rows-left}
+use Rattle.meaning.specs.Moving.{Move, moved-rows, KeywordLine, appended}
 use Rattle.ast.specs.RowLaws.{Sized}
-use Rattle.reading.specs.Sorts.{of-toplevel, of-comments}
-use Rattle.reading.specs.Parted.{sized}
 use Rattle.reading.specs.Matched.{whole}
 use Rattle.reading.specs.Accepts.{reads}
-use Rattle.reading.specs.Promises.{Acceptable, rows, words, accepted-if, accepted-only}
+use Rattle.reading.specs.Promises.{Acceptable, rows, rows-sized, words, words-past, accepted-if, accepted-only}
 use Rattle.standing.specs.MovedItems.{rows-length}
 use Rattle.standing.specs.Accepting.{Read, read}
-use Rattle.standing.specs.Lines.{Line}
 use Rattle.standing.specs.Appending.{Appended, appending}
-
--- the first so many rows that words hold
-unfoldable pub rows-in : ℕ → ℕ → List ℕ → List (List ℕ)
-rows-in size zero ws = []
-rows-in size (suc k) ws = take size ws ∷ rows-in size k (drop size ws)
-
--- how many rows of a table a call counted, and those that it left there
-abbrev pub counts-of : Outcome → Table → ℕ
-counts-of o t = getD (o .answer .counts) (number t - 1) 0
-
-abbrev pub rows-left : Outcome → Table → List (List ℕ)
-rows-left o t = rows-in (size t) (counts-of o t) (lent t (o .left))
 
 -- ---- words that begin with these rows hold them
 rows-of-flat : (size : ℕ) (rs : List (List ℕ)) (ws : List ℕ) → Sized size rs → take (length rs * size) ws ≡ flat rs → rows-in size (length rs) ws ≡ rs
@@ -76,22 +59,23 @@ called s l o e a =
       endianness = ap (λ (x : Outcome). x .answer .endianness) (e ∙ rows s l a);
       counts = n;
       rows = λ t. ap₂ (λ (k : ℕ) (x : Outcome). rows-in (size t) k (lent t (x .left))) (n t) e
-          ∙ rows-of-flat (size t) (rowsOf t xs) (lent t (answer s l .left)) (sized t (of-comments s (whole s)) (of-toplevel s (part Rule.file (clean (whole s)) .kids) [])) (words s l a t);
+          ∙ rows-of-flat (size t) (rowsOf t xs) (lent t (answer s l .left)) (rows-sized s t) (words s l a t);
     }
 
 -- ---- the third call, by what the others left
-pub record Stood (old new both : Outcome) (m : Move) : Type 0 where
+pub record Stood (old new both : Outcome) (m : Move) (l : Lent) : Type 0 where
   pub number : both .answer .number ≡ 0
   pub endianness : both .answer .endianness ≡ old .answer .endianness
   pub counts : (t : Table) → counts-of both t ≡ counts-of old t + counts-of new t
   pub rows : (t : Table) → rows-left both t ≡ rows-left old t ++ moved-rows m t (rows-left new t)
+  pub past : (t : Table) → drop (counts-of both t * size t) (lent t (both .left)) ≡ drop (counts-of both t * size t) (lent t l)
 
-module _ (s u : List ℕ) {h : List ℕ} (l : Line h) (l₁ l₂ l₃ : Lent) (old new both : Outcome)
+module _ (s u : List ℕ) {h : List ℕ} (l : KeywordLine h) (l₁ l₂ l₃ : Lent) (old new both : Outcome)
     (e₁ : old ≡ answer s l₁) (e₂ : new ≡ answer (h ++ u) l₂) (e₃ : both ≡ answer (s ++ 10 ∷ u) l₃) where
   -- THE THEOREM over calls
   pub appended-calls : old .answer .number ≡ 0 → new .answer .number ≡ 0
       → getD (old .answer .endianness) row-kind 0 ≡ getD (new .answer .endianness) row-kind 0 → length (s ++ 10 ∷ u) ≤ longest
-      → ((t : Table) → counts-of old t + counts-of new t ≤ room (size t) (lent t l₃)) → Stood old new both (appended s h (counts-of old))
+      → ((t : Table) → counts-of old t + counts-of new t ≤ room (size t) (lent t l₃)) → Stood old new both (appended s h (counts-of old)) l₃
   appended-calls n₁ n₂ same long roomy =
       let a = called s l₁ old e₁ (accepted-only s l₁ (ap (λ (x : Outcome). x .answer .number) (sym e₁) ∙ n₁)) in
       let b = called (h ++ u) l₂ new e₂ (accepted-only (h ++ u) l₂ (ap (λ (x : Outcome). x .answer .number) (sym e₂) ∙ n₂)) in
@@ -99,9 +83,14 @@ module _ (s u : List ℕ) {h : List ℕ} (l : Line h) (l₁ l₂ l₃ : Lent) (o
       let d = appending s u l (a .reads) (b .reads) (ap first (sym (a .endianness)) ∙ same ∙ ap first (b .endianness)) long in
       let r = read (d .reads) in
       let sum : (t : Table) → count t (d .items) ≡ counts-of old t + counts-of new t =
-      λ t. omega (arith, a .counts t, b .counts t, ap length (d .rows t),
-      length-append (rowsOf t (items s (whole s))) (moved-rows (appended s h (λ t. count t (items s (whole s)))) t (rowsOf t (items (h ++ u) (whole (h ++ u))))),
-      rows-length (appended s h (λ t. count t (items s (whole s)))) t (rowsOf t (items (h ++ u) (whole (h ++ u))))) in
+      λ t. omega (
+        arith,
+        a .counts t,
+        b .counts t,
+        ap length (d .rows t),
+        length-append (rowsOf t (items s (whole s))) (moved-rows (appended s h (λ t. count t (items s (whole s)))) t (rowsOf t (items (h ++ u) (whole (h ++ u))))),
+        rows-length (appended s h (λ t. count t (items s (whole s)))) t (rowsOf t (items (h ++ u) (whole (h ++ u)))),
+      ) in
       let fits : Acceptable (s ++ 10 ∷ u) l₃ = record { source = r .accepts; tables = λ t. rw (r .items) (omega (arith, sum t, roomy t)) } in
       let c = called (s ++ 10 ∷ u) l₃ both e₃ fits in
       record {
@@ -109,6 +98,8 @@ module _ (s u : List ℕ) {h : List ℕ} (l : Line h) (l₁ l₂ l₃ : Lent) (o
         endianness = c .endianness ∙ r .words ∙ sym (a .endianness);
         counts = λ t. c .counts t ∙ ap (count t) (r .items) ∙ sum t;
         rows = λ t. c .rows t ∙ ap (rowsOf t) (r .items) ∙ d .rows t ∙ told t (a .counts) (a .rows t) (b .rows t);
+        past = λ t. ap₂ (λ (k : ℕ) (x : Outcome). drop (k * size t) (lent t (x .left))) (c .counts t) e₃
+            ∙ words-past (s ++ 10 ∷ u) l₃ fits t ∙ ap (λ (k : ℕ). drop (k * size t) (lent t l₃)) (sym (c .counts t));
       }
     where
       told : (t : Table) {x y : Table → ℕ} {p q p′ q′ : List (List ℕ)} → ((t : Table) → x t ≡ y t) → p ≡ p′ → q ≡ q′

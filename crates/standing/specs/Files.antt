@@ -25,7 +25,8 @@ use Rattle.standing.specs.Longs.{Longs, longs, long-placed}
 use Rattle.standing.specs.Least.{least}
 use Rattle.standing.specs.Nodes.{allowed, Holds}
 use Rattle.standing.specs.Spelling.{every, Kindly, sorted, kinded}
-use Rattle.standing.specs.Insides.{inside, Inside, wider}
+use Rattle.grammar.specs.Bounds.{wider}
+use Rattle.standing.specs.Insides.{inside, Inside}
 
 -- ---- the end's node
 abbrev pub eoi : ℕ → Forest

@@ -7,21 +7,10 @@ use native.Mathlib.Omega.{arith}
 use Rattle.meaning.specs.Rules.{Rule}
 use Rattle.meaning.specs.Peg.{Peg, lit, range, any, any-byte, end, neg, seq, alt, star, opt, quiet, rule}
 use Rattle.meaning.specs.Forest.{Forest, nil, tree, _⊕_}
-use Rattle.grammar.specs.Bounds.{Held}
+use Rattle.grammar.specs.Bounds.{Held, wider, held-⊕}
 use Rattle.standing.specs.Plain.{shift, plain}
 use Rattle.standing.specs.Nodes.{Law, allowed, Holds, holding}
 use Rattle.standing.specs.Likeness.{placed, placed-join, placed-shift}
-
-pub wider : (a b c d : ℕ) (w : Forest) → c ≤ a → b ≤ d → Held a b w → Held c d w
-wider a b c d nil p q h = tt
-wider a b c d (tree r s l k more) p q h =
-    let x : a ≤ s = h .0 in
-    let y : s + l ≤ b = h .1 .0 in
-    (omega arith, (omega arith, (wider a b c d k p q (h .1 .1 .0), wider a b c d more p q (h .1 .1 .1))))
-
-pub held-⊕ : (a b : ℕ) (v w : Forest) → Held a b v → Held a b w → Held a b (v ⊕ w)
-held-⊕ a b nil w h k = k
-held-⊕ a b (tree r s l kids more) w h k = (h .0, (h .1 .0, (h .1 .1 .0, held-⊕ a b more w (h .1 .1 .1) k)))
 
 abbrev pub Inside : ℕ → Forest → Type 0
 Inside n f = (o : ℕ) → Held o (o + n) (placed o f)

@@ -18,7 +18,8 @@ use Rattle.standing.specs.Spelling.{every, Kindly, sorted, kinded}
 use Rattle.standing.specs.Longs.{Longs, longs, long-placed}
 use Rattle.standing.specs.Least.{least}
 use Rattle.standing.specs.Nodes.{allowed, Holds}
-use Rattle.standing.specs.Insides.{Inside, inside, wider}
+use Rattle.grammar.specs.Bounds.{wider}
+use Rattle.standing.specs.Insides.{Inside, inside}
 use Rattle.standing.specs.Files.{Whole, Core, to-whole, to-core}
 use Rattle.standing.specs.Valid.{valid-behind, valid-line}
 
