@@ -11,7 +11,7 @@ use Rattle.meaning.specs.Forest.{Forest, nil, tree}
 use Rattle.meaning.specs.Places.{at, placeAt}
 use Rattle.meaning.specs.Tables.{Item, int, row}
 use Rattle.grammar.specs.Bounds.{Held}
-use Rattle.standing.specs.Joined.{movedBy}
+use Rattle.standing.specs.Joinings.{movedBy}
 use Rattle.standing.specs.Places.{breaks, on-line, drawn-back, end-of, place-before, place-behind}
 use Rattle.standing.specs.Moves.{Move, Sort, stays, place, name, first, condition, unless-none, counted-first, head-word, words, sorts, moved-item, moved-items}
 use Rattle.standing.specs.MovedItems.{Carries}

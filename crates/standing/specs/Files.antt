@@ -3,29 +3,30 @@
 use mathlib.Core.Path.{_≡_, refl, sym, ap, ap₂, _∙_, subst}
 use mathlib.Core.Bool.{Bool, true, false}
 use mathlib.Core.List.{List, [], _∷_}
-use Prim.Native.Nat.{ℕ, _+_, _≤_}
+use Prim.Native.Nat.{ℕ, _+_}
 use native.Mathlib.Omega.{arith}
-use lib.ListN.{length, drop, length-drop}
-use Rattle.meaning.specs.Rules.{Rule}
+use lib.ListN.{length, drop}
 use Rattle.meaning.specs.Utf8.{valid}
+use Rattle.meaning.specs.Rules.{Rule}
 use Rattle.meaning.specs.Peg.{Peg, lit, end, seq, rule, hit}
 use Rattle.meaning.specs.Forest.{Forest, nil, tree, _⊕_, clean, outcome, eval, Out as Full, missed as failed, took as held}
 use Rattle.meaning.specs.Pdl.{file, rules}
 use Rattle.grammar.specs.Bytewise.{file-joined}
+use Rattle.grammar.specs.Nodes.{⊕-assoc}
 use Rattle.grammar.specs.Bounds.{Held}
-use Rattle.standing.specs.Plain.{Out, missed, took, shift, join, after, seqE, ruleE, plain}
-use Rattle.standing.specs.Nested.{skip, endianness}
-use Rattle.standing.specs.Blank.{took-le}
-use Rattle.standing.specs.Own.{join-assoc, shift-join}
-use Rattle.standing.specs.Append.{ends, some-decls, tail, core}
-use Rattle.standing.specs.Righted.{right, respelt}
-use Rattle.standing.specs.Likeness.{placed, placed-join, Like, steady, alike}
-use Rattle.standing.specs.Kinds.{Kinded, Long}
-use Rattle.standing.specs.Longs.{Longs, longs, long-placed}
-use Rattle.standing.specs.Least.{least}
-use Rattle.standing.specs.Nodes.{allowed, Holds}
-use Rattle.standing.specs.Spelling.{every, Kindly, sorted, kinded}
-use Rattle.standing.specs.Insides.{inside, Inside, wider}
+use Rattle.locality.specs.Plain.{Out, missed, took, shift, after, seqE, ruleE, plain}
+use Rattle.locality.specs.PlainLaws.{shift-⊕}
+use Rattle.locality.specs.Brackets.{right, respelt}
+use Rattle.locality.specs.Likeness.{placed, placed-⊕, Like, steady, alike}
+use Rattle.locality.specs.Holding.{allowed, Holds}
+use Rattle.locality.specs.Insides.{inside, Inside, wider}
+use Rattle.locality.specs.Least.{least}
+use Rattle.locality.specs.Finals.{Final, end-final, seq-final}
+use Rattle.standing.specs.NestedGrammar.{skip, endianness}
+use Rattle.standing.specs.Appending.{ends, some-decls, tail, core}
+use Rattle.standing.specs.Names.{every}
+use Rattle.standing.specs.Kinds.{Kinded, Kindly, sorted, kinded}
+use Rattle.standing.specs.CommentLengths.{Long, Longs, longs, long-placed}
 
 -- ---- the end's node
 abbrev pub eoi : ℕ → Forest
@@ -33,11 +34,11 @@ eoi n = tree Rule.EOI n 0 nil nil
 
 abbrev closed : Out → Out
 closed missed = missed
-closed (took n f) = took n (join f (eoi n))
+closed (took n f) = took n (f ⊕ eoi n)
 
 after-closed : (n : ℕ) (f : Forest) (o : Out) → after n f (closed o) ≡ closed (after n f o)
 after-closed n f missed = refl
-after-closed n f (took m g) = ap (took (n + m)) (ap (join f) (shift-join n g (eoi m)) ∙ sym (join-assoc f (shift n g) (eoi (n + m))))
+after-closed n f (took m g) = ap (took (n + m)) (ap (λ (x : Forest). f ⊕ x) (shift-⊕ n g (eoi m)) ∙ sym (⊕-assoc f (shift n g) (eoi (n + m))))
 
 seq-closed : (a b c : Peg) → ((s : List ℕ) → plain b s ≡ closed (plain c s)) → (s : List ℕ) → plain (seq a b) s ≡ closed (plain (seq a c) s)
 unfolding plain
@@ -72,28 +73,6 @@ is-steady = refl
 file-is : (s : List ℕ) → plain file s ≡ ruleE Rule.file (closed (plain core s))
 file-is s = respelt file (rule Rule.file shut) spelt s ∙ unfold plain in ap (ruleE Rule.file) (shut-is s)
 
--- ---- what matches takes all
-abbrev Final : List ℕ → Out → Type 0
-Final s missed = Unit {0}
-Final s (took n f) = n ≡ length s
-
-end-final : (s : List ℕ) → Final s (plain end s)
-unfolding plain
-end-final [] = refl
-end-final (x ∷ s) = tt
-
-seq-final : (a b : Peg) → ((s : List ℕ) → Final s (plain b s)) → (s : List ℕ) → Final s (plain (seq a b) s)
-unfolding plain
-seq-final a b h s = go (plain a s) refl
-  where
-    last : (n : ℕ) (f : Forest) (o : Out) → n ≤ length s → Final (drop n s) o → Final s (after n f o)
-    last n f missed l q = tt
-    last n f (took m g) l q = omega (arith, length-drop n s)
-
-    go : (o : Out) → plain a s ≡ o → Final s (seqE o (λ n. plain b (drop n s)))
-    go missed e = tt
-    go (took n f) e = last n f (plain b (drop n s)) (took-le a s n f e) (h (drop n s))
-
 core-final : (s : List ℕ) → Final s (plain core s)
 core-final = seq-final (lit []) _ (seq-final skip _ (seq-final endianness _ (seq-final skip _ (seq-final some-decls _ (seq-final skip end end-final)))))
 
@@ -118,7 +97,7 @@ full s F v e = go (eval file 0 s) refl (subst (λ (x : Full). Like 0 x (plain fi
     here : 0 + length s ≡ length s
     here = omega arith
 
-    said : plain file s ≡ took (length s) (tree Rule.file 0 (length s) (join F (eoi (length s))) nil)
+    said : plain file s ≡ took (length s) (tree Rule.file 0 (length s) (F ⊕ eoi (length s)) nil)
     said = file-is s ∙ ap (λ o. ruleE Rule.file (closed o)) e
 
     go : (x : Full) → eval file 0 s ≡ x → Like 0 x (plain file s) → Whole s (placed 0 F)
@@ -128,7 +107,7 @@ full s F v e = go (eval file 0 s) refl (subst (λ (x : Full). Like 0 x (plain fi
         record {
           good = v;
           mark = f;
-          is = q ∙ ap₂ (λ (a : ℕ) (b : Forest). held a f b) (k .0) (k .1 ∙ ap (λ c. tree Rule.file 0 (length s) c nil) (placed-join 0 F (eoi (length s)) ∙ ap (λ i. placed 0 F ⊕ eoi i) here));
+          is = q ∙ ap₂ (λ (a : ℕ) (b : Forest). held a f b) (k .0) (k .1 ∙ ap (λ c. tree Rule.file 0 (length s) c nil) (placed-⊕ 0 F (eoi (length s)) ∙ ap (λ i. placed 0 F ⊕ eoi i) here));
         }
 
 -- a node less at the end

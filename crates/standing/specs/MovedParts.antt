@@ -15,7 +15,7 @@ use Rattle.meaning.specs.Convert.{convert, reasonOf, valueOf}
 use Rattle.meaning.specs.Tables.{Item, int}
 use Rattle.meaning.specs.Walk.{Part, absent, node, part, orPart, following, each, place, name, unquoted, value, optional, number}
 use Rattle.grammar.specs.Bounds.{Held}
-use Rattle.standing.specs.Joined.{movedBy}
+use Rattle.standing.specs.Joinings.{movedBy}
 use Rattle.standing.specs.Moves.{Move, Sort, stays, words, place-sorts, name-sorts, unless-none, moved-items}
 use Rattle.standing.specs.MovedItems.{Carries, carries-none, carries-++}
 

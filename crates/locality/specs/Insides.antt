@@ -8,9 +8,9 @@ use Rattle.meaning.specs.Rules.{Rule}
 use Rattle.meaning.specs.Peg.{Peg, lit, range, any, any-byte, end, neg, seq, alt, star, opt, quiet, rule}
 use Rattle.meaning.specs.Forest.{Forest, nil, tree, _⊕_}
 use Rattle.grammar.specs.Bounds.{Held}
-use Rattle.standing.specs.Plain.{shift, plain}
-use Rattle.standing.specs.Nodes.{Law, allowed, Holds, holding}
-use Rattle.standing.specs.Likeness.{placed, placed-join, placed-shift}
+use Rattle.locality.specs.Plain.{shift, plain}
+use Rattle.locality.specs.Likeness.{placed, placed-⊕, placed-shift}
+use Rattle.locality.specs.Holding.{Law, allowed, Holds, holding}
 
 pub wider : (a b c d : ℕ) (w : Forest) → c ≤ a → b ≤ d → Held a b w → Held c d w
 wider a b c d nil p q h = tt
@@ -33,7 +33,7 @@ law : Law Inside any-rule
 law = record {
   none = λ n o. tt;
   two = λ n m f g h k o.
-      rw (placed-join o f (shift n g), placed-shift o n g)
+      rw (placed-⊕ o f (shift n g), placed-shift o n g)
       (held-⊕ o (o + (n + m)) (placed o f) (placed (o + n) g)
       (wider o (o + n) o (o + (n + m)) (placed o f) (omega arith) (omega arith) (h o))
       (wider (o + n) (o + n + m) o (o + (n + m)) (placed (o + n) g) (omega arith) (omega arith) (k (o + n))));
