@@ -7,16 +7,18 @@ use native.Mathlib.Omega.{arith}
 use borrow.Author.Tests.{eqb-true}
 use lib.Dec.{eqb}
 use lib.ListN.{length, drop}
-use Rattle.meaning.specs.Choice.{both}
+use Rattle.meaning.specs.Choice.{both, pick}
 use Rattle.meaning.specs.Rules.{Rule}
 use Rattle.meaning.specs.Peg.{Peg, lit, range, any, any-byte, end, neg, seq, alt, star, opt, quiet, rule, prefixb, within}
 use Rattle.meaning.specs.Forest.{Forest}
 use Rattle.text.specs.ChoiceLaws.{never, both-is}
-use Rattle.locality.specs.Plain.{Out, missed, took, after, when, rangeE, seqE, altE, ruleE, starE, plain, Took}
+use Rattle.locality.specs.Plain.{Out, missed, took, after, seqE, altE, ruleE, starE, plain, Took}
+use Rattle.locality.specs.Holding.{Law, holds-map, holding}
+use Rattle.locality.specs.Least.{nullable}
 use Rattle.locality.specs.PlainLaws.{star-took}
 use Rattle.locality.specs.Looks.{litF, seqF, altF, starF, far}
 use Rattle.locality.specs.Absorbing.{Absorbs, Bound, lost, lostF, abs-le, abs-rule, lost-le}
-use Rattle.locality.specs.Firsts.{sound, Quiet, firsts, nullable, offs, abs-first₂}
+use Rattle.locality.specs.Firsts.{firsts, offs, abs-first₂, misses, near}
 use Rattle.locality.specs.Literals.{differ, differ-far}
 
 pub lost-rule : {e : List ℕ → ℕ} {q : Peg} (p : Peg) (r t : Rule) → Absorbs (lost p) q e → Absorbs (lost (rule r p)) (rule t q) e
@@ -74,7 +76,7 @@ abbrev pub outside : List ℕ → ℕ → ℕ → Bool
 outside [] a b = false
 outside (c ∷ l) a b = not (within a b c)
 
--- whatever b takes begins so that the literal l does not match there, and shows it fits what b takes
+-- whatever b takes begins so that the literal l does not match there, and shows it within what b takes
 abbrev pub begins : List ℕ → Peg → Bool
 begins l (lit m) = differ l m
 begins l (range a b) = outside l a b
@@ -89,57 +91,36 @@ begins l (star p) = false
 begins l (opt p) = false
 begins l (rule r p) = begins l p
 
-abbrev Lead : List ℕ → List ℕ → Out → Type 0
-Lead l s missed = Unit {0}
-Lead l s (took n f) = (litF l s ≤ n) × (prefixb l s ≡ false)
+abbrev Leads : List ℕ → Peg → List ℕ → ℕ → Forest → Type 0
+Leads l p s n f = begins l p ≡ true → (litF l s ≤ n) × (prefixb l s ≡ false)
 
-lit-lead : (l m s : List ℕ) → differ l m ≡ true → Lead l s (when (prefixb m s) (length m))
-lit-lead l m s d = go (prefixb m s) refl
+range-leads : (l : List ℕ) (a b x : ℕ) (s : List ℕ) → within a b x ≡ true → outside l a b ≡ true
+    → (litF l (x ∷ s) ≤ 1) × (prefixb l (x ∷ s) ≡ false)
+range-leads [] a b x s p h = never h
+range-leads (c ∷ l) a b x s p h = go (eqb c x) refl
   where
-    go : (b : Bool) → prefixb m s ≡ b → Lead l s (when b (length m))
-    go true e = differ-far l m s d e
-    go false e = tt
+    go : (w : Bool) → eqb c x ≡ w → (pick w (suc (litF l s)) 1 ≤ 1) × (both w (prefixb l s) ≡ false)
+    go false q = (omega arith, refl)
+    go true q = never (rw (eqb-true c x q, p) at h)
 
-range-lead : (l : List ℕ) (a b : ℕ) (s : List ℕ) → outside l a b ≡ true → Lead l s (rangeE a b s)
-range-lead [] a b s e = never e
-range-lead (c ∷ l) a b [] e = tt
-range-lead (c ∷ l) a b (x ∷ s) e = go (within a b x) refl (eqb c x) refl
-  where
-    go : (v : Bool) → within a b x ≡ v → (w : Bool) → eqb c x ≡ w → Lead (c ∷ l) (x ∷ s) (when v 1)
-    go false p w q = tt
-    go true p false q = rw q (omega arith, refl)
-    go true p true q = never (rw (eqb-true c x q, p) at e)
-
-after-lead : (l s : List ℕ) (n : ℕ) (f : Forest) (o : Out) → Lead l s (took n f) → Lead l s (after n f o)
-after-lead l s n f missed i = tt
-after-lead l s n f (took m g) i = (omega (arith, i .0), i .1)
-
-seq-lead : (l s : List ℕ) (o : Out) (k : ℕ → Out) → Lead l s o → Lead l s (seqE o k)
-seq-lead l s missed k i = tt
-seq-lead l s (took n f) k i = after-lead l s n f (k n) i
-
-alt-lead : (l s : List ℕ) (o r : Out) → Lead l s o → Lead l s r → Lead l s (altE o r)
-alt-lead l s missed r i j = j
-alt-lead l s (took n f) r i j = i
-
-rule-lead : (l s : List ℕ) (r : Rule) (o : Out) → Lead l s o → Lead l s (ruleE r o)
-rule-lead l s r missed i = tt
-rule-lead l s r (took n f) i = i
-
-lead : (l s : List ℕ) (p : Peg) → begins l p ≡ true → Lead l s (plain p s)
-unfolding plain
-lead l s (lit m) e = lit-lead l m s e
-lead l s (range a b) e = range-lead l a b s e
-lead l s any e = never e
-lead l s any-byte e = never e
-lead l s (quiet p) e = lead l s p e
-lead l s end e = never e
-lead l s (neg p) e = never e
-lead l s (seq a b) e = seq-lead l s (plain a s) (λ n. plain b (drop n s)) (lead l s a e)
-lead l s (alt a b) e = let i = both-is (begins l a) (begins l b) e in alt-lead l s (plain a s) (plain b s) (lead l s a (i .0)) (lead l s b (i .1))
-lead l s (star p) e = never e
-lead l s (opt p) e = never e
-lead l s (rule r p) e = rule-lead l s r (plain p s) (lead l s p e)
+leads : (l : List ℕ) → Law (Leads l)
+leads l = record {
+  on-lit = λ m s e h. differ-far l m s h e;
+  on-range = λ a b x s e h. range-leads l a b x s e h;
+  on-any = λ x s h. never h;
+  on-any-byte = λ x s h. never h;
+  on-end = λ h. never h;
+  on-neg = λ p s h. never h;
+  on-seq = λ a b s n m f g e x y h. let i = x h in (omega (arith, i .0), i .1);
+  on-left = λ a b s n f x h. x (both-is (begins l a) (begins l b) h .0);
+  on-right = λ a b s n f e x h. x (both-is (begins l a) (begins l b) h .1);
+  on-stop = λ p s h. never h;
+  on-step = λ p s n m f g e x y h. never h;
+  on-none = λ p s h. never h;
+  on-some = λ p s n f x h. never h;
+  on-quiet = λ p s n f x. x;
+  on-rule = λ r p s n f e x. x;
+}
 
 seq-no : (o : Out) (x m : ℕ) (k : ℕ → Out) (h : ℕ → ℕ) → (o ≡ missed) × (x ≤ m) → (seqE o k ≡ missed) × (seqF x o h ≤ m)
 seq-no o x m k h i = (rw (i .0), rw (i .0) (i .1))
@@ -160,11 +141,9 @@ head-no (opt p) s e = never (sym e)
 head-no (rule r p) s e = let i = head-no p s e in (ap (ruleE r) (i .0), i .1)
 
 pub lost-head : {e : List ℕ → ℕ} (a b : Peg) → begins (headLit a) b ≡ true → Absorbs (lost a) b e
-lost-head {e} a b d = record { at = λ s. go s (plain b s) (lead (headLit a) s b d) }
-  where
-    go : (s : List ℕ) (o : Out) → Lead (headLit a) s o → Bound o (lost a s) (λ n. e (drop n s))
-    go s missed i = tt
-    go s (took n f) i = omega (arith, i .0, head-no a s (i .1) .1, lost-le a s)
+lost-head {e} a b d = record {
+  at = λ s. holds-map (plain b s) (λ n f x. let i = x d in omega (arith, i .0, head-no a s (i .1) .1, lost-le a s)) (holding (leads (headLit a)) b s);
+}
 
 -- ---- a choice inside a failed alternative
 
@@ -177,17 +156,17 @@ lost-alt₁ {e} {x} y t a = record { at = λ s. go s (plain x s) (a .at s) }
     go s missed i = tt
     go s (took n f) i = i
 
-pub lost-alt₂ : {e : List ℕ → ℕ} {y : Peg} (x t : Peg) → offs (firsts x) (firsts y) ≡ true → nullable x ≡ false → nullable y ≡ false → Absorbs (lost (seq y t)) y e → Absorbs (lost (seq (alt x y) t)) y e
+pub lost-alt₂ : {e : List ℕ → ℕ} {y : Peg} (x t : Peg) → offs (firsts x) (firsts y) ≡ true → nullable x ≡ false → nullable y ≡ false
+    → Absorbs (lost (seq y t)) y e → Absorbs (lost (seq (alt x y) t)) y e
 unfolding lost plain far
-lost-alt₂ {e} {y} x t d u v a = abs-first₂ (firsts x) (λ s q. go s (plain x s) (rw u at (sound x s q .1)) (plain y s) (sound x s q .0)) d v a
+lost-alt₂ {e} {y} x t d u v a = abs-first₂ (firsts x) (λ s q. rw (misses x s u q) (go s (plain y s) (near x s q))) d v a
   where
-    go₂ : (s : List ℕ) (m : ℕ) (o : Out) (z w : ℕ) → m ≤ 1 → lostF o (max (max m z) w) ≤ max 1 (lostF o (max z w))
-    go₂ s m missed z w l = omega arith
-    go₂ s m (took n f) z w l = omega arith
+    longer : (o : Out) (m z w : ℕ) → m ≤ 1 → lostF o (max (max m z) w) ≤ max 1 (lostF o (max z w))
+    longer missed m z w l = omega arith
+    longer (took n f) m z w l = omega arith
 
-    go : (s : List ℕ) (o : Out) → Quiet o false → (r : Out) → far x s ≤ 1
-        → lostF (seqE (altE o r) (λ n. plain t (drop n s))) (seqF (altF (far x s) o (far y s)) (altE o r) (λ n. far t (drop n s)))
+    go : (s : List ℕ) (r : Out) → far x s ≤ 1
+        → lostF (seqE r (λ n. plain t (drop n s))) (seqF (max (far x s) (far y s)) r (λ n. far t (drop n s)))
         ≤ max 1 (lostF (seqE r (λ n. plain t (drop n s))) (seqF (far y s) r (λ n. far t (drop n s))))
-    go s missed q missed l = omega arith
-    go s missed q (took n f) l = go₂ s (far x s) (after n f (plain t (drop n s))) (far y s) (n + far t (drop n s)) l
-    go s (took n f) q r l = never (q .1)
+    go s missed l = omega arith
+    go s (took n f) l = longer (after n f (plain t (drop n s))) (far x s) (far y s) (n + far t (drop n s)) l

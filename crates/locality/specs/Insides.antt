@@ -1,16 +1,14 @@
 -- Every node of a plain match, placed in the source, lies inside what the match takes.
-use mathlib.Core.Path.{_≡_, refl}
-use mathlib.Core.Bool.{Bool, true}
+use mathlib.Core.Path.{_≡_}
 use mathlib.Core.List.{List}
-use Prim.Native.Nat.{ℕ, _+_, _≤_}
+use Prim.Native.Nat.{ℕ, suc, _+_, _≤_}
 use native.Mathlib.Omega.{arith}
-use Rattle.meaning.specs.Rules.{Rule}
-use Rattle.meaning.specs.Peg.{Peg, lit, range, any, any-byte, end, neg, seq, alt, star, opt, quiet, rule}
+use Rattle.meaning.specs.Peg.{Peg}
 use Rattle.meaning.specs.Forest.{Forest, nil, tree, _⊕_}
 use Rattle.grammar.specs.Bounds.{Held}
-use Rattle.locality.specs.Plain.{shift, plain}
+use Rattle.locality.specs.Plain.{took, shift, plain}
+use Rattle.locality.specs.Holding.{Law, taken}
 use Rattle.locality.specs.Likeness.{placed, placed-⊕, placed-shift}
-use Rattle.locality.specs.Holding.{Law, allowed, Holds, holding}
 
 pub wider : (a b c d : ℕ) (w : Forest) → c ≤ a → b ≤ d → Held a b w → Held c d w
 wider a b c d nil p q h = tt
@@ -26,35 +24,35 @@ held-⊕ a b (tree r s l kids more) w h k = (h .0, (h .1 .0, (h .1 .1 .0, held-�
 abbrev pub Inside : ℕ → Forest → Type 0
 Inside n f = (o : ℕ) → Held o (o + n) (placed o f)
 
-abbrev any-rule : Rule → Peg → Bool
-any-rule r p = true
+abbrev Inner : Peg → List ℕ → ℕ → Forest → Type 0
+Inner p s n f = Inside n f
 
-law : Law Inside any-rule
+two : (n m : ℕ) (f g : Forest) → Inside n f → Inside m g → Inside (n + m) (f ⊕ shift n g)
+two n m f g h k o =
+    rw (placed-⊕ o f (shift n g), placed-shift o n g)
+    (held-⊕ o (o + (n + m)) (placed o f) (placed (o + n) g)
+    (wider o (o + n) o (o + (n + m)) (placed o f) (omega arith) (omega arith) (h o))
+    (wider (o + n) (o + n + m) o (o + (n + m)) (placed (o + n) g) (omega arith) (omega arith) (k (o + n))))
+
+law : Law Inner
 law = record {
-  none = λ n o. tt;
-  two = λ n m f g h k o.
-      rw (placed-⊕ o f (shift n g), placed-shift o n g)
-      (held-⊕ o (o + (n + m)) (placed o f) (placed (o + n) g)
-      (wider o (o + n) o (o + (n + m)) (placed o f) (omega arith) (omega arith) (h o))
-      (wider (o + n) (o + n + m) o (o + (n + m)) (placed (o + n) g) (omega arith) (omega arith) (k (o + n))));
-  node = λ r p e s n f q h o.
-      (omega arith, (omega arith, (wider (o + 0) (o + 0 + n) o (o + n) (placed (o + 0) f) (omega arith) (omega arith) (h (o + 0)), tt)));
+  on-lit = λ l s e o. tt;
+  on-range = λ lo hi x s e o. tt;
+  on-any = λ x s o. tt;
+  on-any-byte = λ x s o. tt;
+  on-end = λ o. tt;
+  on-neg = λ p s o. tt;
+  on-seq = λ a b s n m f g e x y. two n m f g x y;
+  on-left = λ a b s n f x. x;
+  on-right = λ a b s n f e x. x;
+  on-stop = λ p s o. tt;
+  on-step = λ p s n m f g e x y. two (suc n) m f g x y;
+  on-none = λ p s o. tt;
+  on-some = λ p s n f x. x;
+  on-quiet = λ p s n f x. x;
+  on-rule = λ r p s n f e x o.
+      (omega arith, (omega arith, (wider (o + 0) (o + 0 + n) o (o + n) (placed (o + 0) f) (omega arith) (omega arith) (x (o + 0)), tt)));
 }
 
-allowed-all : (p : Peg) → allowed any-rule p ≡ true
-unfolding allowed
-allowed-all (lit l) = refl
-allowed-all (range lo hi) = refl
-allowed-all any = refl
-allowed-all any-byte = refl
-allowed-all end = refl
-allowed-all (neg p) = refl
-allowed-all (seq a b) = rw (allowed-all a) (allowed-all b)
-allowed-all (alt a b) = rw (allowed-all a) (allowed-all b)
-allowed-all (star p) = allowed-all p
-allowed-all (opt p) = allowed-all p
-allowed-all (quiet p) = allowed-all p
-allowed-all (rule r p) = allowed-all p
-
-pub inside : (p : Peg) (s : List ℕ) → Holds Inside (plain p s)
-inside p s = holding law p (allowed-all p) s
+pub inside : (p : Peg) (s : List ℕ) (n : ℕ) (f : Forest) → plain p s ≡ took n f → Inside n f
+inside = taken law

@@ -1,5 +1,7 @@
 pub mod Booleans
 pub mod Plain
+pub mod Holding
+pub mod Least
 pub mod PlainLaws
 pub mod Looks
 pub mod Stars
@@ -10,9 +12,6 @@ pub mod Failures
 pub mod Brackets
 pub mod Likeness
 pub mod OwnBytes
-pub mod Holding
 pub mod Insides
-pub mod Least
 pub mod ValidTexts
 pub mod Closings
-pub mod Finals

@@ -8,14 +8,13 @@ use lib.Dec.{eqb}
 use lib.ListN.{length, drop}
 use Rattle.meaning.specs.Choice.{pick, both, either}
 use Rattle.meaning.specs.Peg.{Peg, lit, range, any, any-byte, end, neg, seq, alt, star, opt, quiet, rule, prefixb}
-use Rattle.meaning.specs.Forest.{Forest, nil}
 use Rattle.text.specs.ChoiceLaws.{never, both-is}
 use Rattle.locality.specs.Plain.{Out, missed, took, after, when, negE, seqE, starS, plain, size}
-use Rattle.locality.specs.PlainLaws.{after-after, after-zero, cont, after-cont}
-use Rattle.locality.specs.Looks.{litF, seqF, altF, far, fits, reach, local}
-use Rattle.locality.specs.Stars.{star-unfold}
+use Rattle.locality.specs.Least.{some, nullable, AtLeast}
+use Rattle.locality.specs.PlainLaws.{after-zero, cont, after-cont, size-after-took, star-is}
+use Rattle.locality.specs.Looks.{litF, seqF, far, reach, local, star-unfold, altF-le}
+use Rattle.locality.specs.Stars.{star-nil}
 use Rattle.locality.specs.Absorbing.{Absorbs, Bound, lost, lostF, nought, one, abs-nil, abs-seq, far-star, lost-le, abs-const, le-one, abs-one}
-use Rattle.locality.specs.Firsts.{some, Some, nullable}
 
 -- an expression that looks at one byte at most, whatever it does
 abbrev pub single : List ℕ → Bool
@@ -47,10 +46,6 @@ lit-byte (c ∷ []) (x ∷ s) e = go (eqb c x)
     go false = omega arith
 lit-byte (c ∷ d ∷ l) s e = never e
 
-alt-le : (o : Out) (x y m : ℕ) → x ≤ m → y ≤ m → altF x o y ≤ m
-alt-le missed x y m p q = omega arith
-alt-le (took n f) x y m p q = p
-
 pub byte-far : (p : Peg) (s : List ℕ) → byte p ≡ true → far p s ≤ 1
 unfolding byte far
 byte-far (lit l) s e = lit-byte l s e
@@ -61,7 +56,9 @@ byte-far (quiet p) s e = byte-far p s e
 byte-far end s e = omega arith
 byte-far (neg p) s e = byte-far p s e
 byte-far (seq a b) s e = never e
-byte-far (alt a b) s e = let i = both-is (byte a) (byte b) e in alt-le (plain a s) (far a s) (far b s) 1 (byte-far a s (i .0)) (byte-far b s (i .1))
+byte-far (alt a b) s e =
+    let i = both-is (byte a) (byte b) e in
+    altF-le (plain a s) (far a s) (far b s) 1 (byte-far a s (i .0)) (byte-far b s (i .1))
 byte-far (star p) s e = never e
 byte-far (opt p) s e = byte-far p s e
 byte-far (rule r p) s e = byte-far p s e
@@ -69,7 +66,7 @@ byte-far (rule r p) s e = byte-far p s e
 pub abs-some : {h e : List ℕ → ℕ} {p : Peg} → nullable p ≡ false → ((s : List ℕ) → h s ≤ 1) → Absorbs h p e
 abs-some {h} {e} {p} v a = record { at = λ s. go s (plain p s) (some p s v) }
   where
-    go : (s : List ℕ) (o : Out) → Some o → Bound o (h s) (λ n. e (drop n s))
+    go : (s : List ℕ) (o : Out) → AtLeast 1 o → Bound o (h s) (λ n. e (drop n s))
     go s missed q = tt
     go s (took n f) q = omega (arith, a s)
 
@@ -177,41 +174,24 @@ pub to-le : (l s : List ℕ) → to l s ≤ length l
 unfolding to
 to-le l s = omega arith
 
--- ---- a star of single bytes, and more behind it
+-- ---- a star of single bytes that takes all of its text, and more behind it
 
--- a star of single bytes
-pub bytes-on : (p : Peg) → byte p ≡ true → nullable p ≡ false → (s v : List ℕ) → size (plain (star p) s) ≡ length s → plain (star p) (s ++ v) ≡ cont (plain (star p) s) (plain (star p) v)
-bytes-on p b k [] v z = rw (star-nil (plain p []) (fits p [])) (sym (after-zero (plain (star p) v)))
-  where
-    nil-star : (o : Out) → size o ≤ 0 → starS o (λ n. plain (star p) (drop n [])) ≡ took 0 nil
-    nil-star missed l = refl
-    nil-star (took zero f) l = refl
-    nil-star (took (suc n) f) l = absurd (omega arith)
-
-    star-nil : (o : Out) → size (plain p []) ≤ 0 → plain (star p) [] ≡ took 0 nil
-    star-nil o l = star-unfold p [] .0 ∙ nil-star (plain p []) l
+pub bytes-on : (p : Peg) → byte p ≡ true → nullable p ≡ false → (s v : List ℕ) → size (plain (star p) s) ≡ length s
+    → plain (star p) (s ++ v) ≡ cont (plain (star p) s) (plain (star p) v)
+bytes-on p b k [] v z = rw (star-nil p) (sym (after-zero (plain (star p) v)))
 bytes-on p b k (a ∷ s) v z =
-    star-unfold p (a ∷ (s ++ v)) .0 ∙ ap (λ o. starS o (λ n. plain (star p) (drop n (a ∷ (s ++ v))))) same
-    ∙ go (plain p (a ∷ s)) (some p (a ∷ s) k) (omega (arith, reach p (a ∷ s), byte-far p (a ∷ s) b)) (ap size (sym (star-unfold p (a ∷ s) .0)) ∙ z) (bytes-on p b k s v)
+    star-unfold p (a ∷ (s ++ v)) .0
+    ∙ ap (λ o. starS o (λ n. plain (star p) (drop n (a ∷ (s ++ v))))) (sym (local p (a ∷ []) s (s ++ v) (byte-far p (a ∷ s) b) .0))
+    ∙ go (plain p (a ∷ s)) refl (some p (a ∷ s) k) (ap size (sym (star-unfold p (a ∷ s) .0)) ∙ z) (bytes-on p b k s v)
     ∙ ap (λ o. cont o (plain (star p) v)) (sym (star-unfold p (a ∷ s) .0))
   where
-    same : plain p (a ∷ (s ++ v)) ≡ plain p (a ∷ s)
-    same = sym (local p (a ∷ []) s (s ++ v) (byte-far p (a ∷ s) b) .0)
-
-    after-cont : (n : ℕ) (f : Forest) (o r : Out) → after n f (cont o r) ≡ cont (after n f o) r
-    after-cont n f missed r = refl
-    after-cont n f (took m g) r = after-after n m f g r
-
-    size-one : (f : Forest) (o : Out) (m : ℕ) → size (after 1 f o) ≡ suc m → size o ≡ m
-    size-one f missed m e = absurd (omega arith)
-    size-one f (took n g) m e = omega arith
-
-    go : (o : Out) → Some o → size o ≤ 1 → size (starS o (λ n. plain (star p) (drop n (a ∷ s)))) ≡ suc (length s)
+    go : (o : Out) → plain p (a ∷ s) ≡ o → AtLeast 1 o → size (starS o (λ n. plain (star p) (drop n (a ∷ s)))) ≡ suc (length s)
         → (size (plain (star p) s) ≡ length s → plain (star p) (s ++ v) ≡ cont (plain (star p) s) (plain (star p) v))
         → starS o (λ n. plain (star p) (drop n (a ∷ (s ++ v)))) ≡ cont (starS o (λ n. plain (star p) (drop n (a ∷ s)))) (plain (star p) v)
-    go missed i l e ih = absurd (omega arith)
-    go (took zero f) i l e ih = absurd (omega arith)
-    go (took (suc n) f) i l e ih =
-        let n0 : n ≡ 0 = omega arith in
+    go missed q i e ih = absurd (omega arith)
+    go (took zero f) q i e ih = absurd (omega arith)
+    go (took (suc n) f) q i e ih =
+        let n0 : n ≡ 0 = omega (arith, reach p (a ∷ s) (suc n) f q, byte-far p (a ∷ s) b) in
         let e′ : size (after 1 f (plain (star p) s)) ≡ suc (length s) = rw n0 at e in
-        rw (n0, ih (size-one f (plain (star p) s) (length s) e′)) (after-cont 1 f (plain (star p) s) (plain (star p) v))
+        let l : size (plain (star p) s) ≡ length s = omega (arith, e′, size-after-took 1 f (plain (star p) s) (star-is p s)) in
+        rw (n0, ih l) (after-cont 1 f (plain (star p) s) (plain (star p) v))

@@ -4,16 +4,17 @@ use mathlib.Core.Path.{_≡_, refl}
 use mathlib.Core.List.{List, [], _∷_}
 use Prim.Native.Nat.{ℕ, zero, suc, _≤_}
 use native.Mathlib.Omega.{arith}
-use lib.ListN.{length, drop}
+use lib.ListN.{drop}
 use Rattle.meaning.specs.Rules.{Rule}
 use Rattle.meaning.specs.Peg.{Peg, lit, any, neg, seq, alt, star}
 use Rattle.meaning.specs.Forest.{Forest, nil}
-use Rattle.locality.specs.Plain.{Out, missed, took, plain, Took}
-use Rattle.locality.specs.PlainLaws.{star-took, seq-took}
-use Rattle.locality.specs.Looks.{litF, seqF, starSF, far, seqF-ge, altF-ge}
-use Rattle.locality.specs.Stars.{star-unfold, Holds, Still, star-stops, star-keeps, seq-ends, Unit′, holds-unit, holds-and, still-star, star-ge}
+use Rattle.locality.specs.Plain.{Out, missed, took, plain, Took, Holds}
+use Rattle.locality.specs.Holding.{holds-map}
+use Rattle.locality.specs.Least.{least}
+use Rattle.locality.specs.PlainLaws.{seq-took, star-is}
+use Rattle.locality.specs.Looks.{litF, seqF, starSF, far, seqF-ge, altF-ge, star-unfold}
+use Rattle.locality.specs.Stars.{Still, seq-ends, still-star, star-ge, star-ends}
 use Rattle.locality.specs.Absorbing.{Absorbs, Bound, one, abs-up, abs-nil, far-seq, far-alt, far-rule, abs-star, far-star, lost-le, abs-const, one-le, le-one, abs-one, seq-ge}
-use Rattle.locality.specs.Firsts.{nullable}
 use Rattle.locality.specs.Literals.{byte, far-bytes, abs-lit, far-lit, lost-lit, far-text, to-le, lit-pos}
 use Rattle.standing.specs.NestedGrammar.{ws, block, line, comment, skip}
 
@@ -27,7 +28,7 @@ pub far-comment : Absorbs (far comment) comment one
 far-comment = far-rule Rule.COMMENT (far-alt far-block (lost-lit (47 ∷ 42 ∷ []) (47 ∷ 47 ∷ []) _ _ refl) far-line)
 
 pub far-ws : Absorbs (far (star ws)) (star ws) one
-unfolding byte nullable
+unfolding byte least
 far-ws = far-bytes ws refl refl
 
 unfoldable pub turn : Peg
@@ -40,27 +41,28 @@ far-turn = far-seq far-comment (abs-star abs-one (λ s. omega arith)) far-ws
 pub skip-took : (s : List ℕ) → Took (plain skip s)
 unfolding plain skip
 skip-took s =
-    seq-took (plain (star ws) s) (λ n. plain (star (seq comment (star ws))) (drop n s)) (star-took (plain ws) (suc (length s)) s)
-    (λ n. star-took (plain (seq comment (star ws))) (suc (length (drop n s))) (drop n s))
+    seq-took (plain (star ws) s) (λ n. plain (star (seq comment (star ws))) (drop n s)) (star-is ws s)
+    (λ n. star-is (seq comment (star ws)) (drop n s))
 
 -- ---- where a run ends
 
-ws-ends : (s : List ℕ) → Holds (plain (star ws) s) (λ n. Still ws (drop n s))
-ws-ends s = star-stops ws (suc (length s)) s (omega arith)
+holds-unit : (o : Out) → Holds (λ n f. Unit {0}) o
+holds-unit missed = tt
+holds-unit (took n f) = tt
 
-turn-ends : (s : List ℕ) → Holds (plain turn s) (λ n. Still ws (drop n s))
+ws-ends : (s : List ℕ) → Holds (λ n f. Still ws (drop n s)) (plain (star ws) s)
+ws-ends s = holds-map (plain (star ws) s) (λ n f x. x .1) (star-ends ws (λ t. Unit {0}) (λ t. holds-unit (plain ws t)) s tt)
+
+turn-ends : (s : List ℕ) → Holds (λ n f. Still ws (drop n s)) (plain turn s)
 unfolding turn
-turn-ends s = seq-ends comment (star ws) Unit′ (Still ws) s (holds-unit (plain comment s)) (λ t i. ws-ends t)
+turn-ends s = seq-ends comment (star ws) (λ t. Unit {0}) (Still ws) s (holds-unit (plain comment s)) (λ t i. ws-ends t)
 
 Done : List ℕ → Type 0
 Done s = Still ws s × Still turn s
 
-skip-ends : (s : List ℕ) → Holds (plain skip s) (λ n. Done (drop n s))
+skip-ends : (s : List ℕ) → Holds (λ n f. Done (drop n s)) (plain skip s)
 unfolding skip turn Done
-skip-ends s =
-    seq-ends (star ws) (star turn) (Still ws) Done s (ws-ends s)
-    (λ t i. holds-and (plain (star turn) t) (λ n. Still ws (drop n t)) (λ n. Still turn (drop n t))
-    (star-keeps turn (Still ws) turn-ends (suc (length t)) t (omega arith) i) (star-stops turn (suc (length t)) t (omega arith)))
+skip-ends s = seq-ends (star ws) (star turn) (Still ws) Done s (ws-ends s) (λ t i. star-ends turn (Still ws) turn-ends t i)
 
 -- ---- a run of blanks, from its end
 
@@ -112,7 +114,7 @@ pub look : (q : Peg) → Absorbs (far (seq skip q)) skip (far (seq skip q))
 unfolding far
 look q = record { at = λ s. go s (plain skip s) (far-skip₁ .at s) (skip-ends s) }
   where
-    go : (s : List ℕ) (o : Out) → Bound o (far skip s) (λ n. far (star turn) (drop n s)) → Holds o (λ n. Done (drop n s))
+    go : (s : List ℕ) (o : Out) → Bound o (far skip s) (λ n. far (star turn) (drop n s)) → Holds (λ n f. Done (drop n s)) o
         → Bound o (seqF (far skip s) o (λ n. far q (drop n s))) (λ n. seqF (far skip (drop n s)) (plain skip (drop n s)) (λ m. far q (drop m (drop n s))))
     go s missed i d = tt
     go s (took n f) i d = rw (done-took (drop n s) d) (omega (arith, done-far (drop n s) d))
@@ -120,7 +122,7 @@ look q = record { at = λ s. go s (plain skip s) (far-skip₁ .at s) (skip-ends 
 pub far-skip : Absorbs (far skip) skip (far skip)
 far-skip = record { at = λ s. go s (plain skip s) (far-skip₁ .at s) (skip-ends s) }
   where
-    go : (s : List ℕ) (o : Out) → Bound o (far skip s) (λ n. far (star turn) (drop n s)) → Holds o (λ n. Done (drop n s)) → Bound o (far skip s) (λ n. far skip (drop n s))
+    go : (s : List ℕ) (o : Out) → Bound o (far skip s) (λ n. far (star turn) (drop n s)) → Holds (λ n f. Done (drop n s)) o → Bound o (far skip s) (λ n. far skip (drop n s))
     go s missed i d = tt
     go s (took n f) i d = omega (arith, done-far (drop n s) d)
 

@@ -15,18 +15,18 @@ use Rattle.grammar.specs.Bytewise.{file-joined}
 use Rattle.grammar.specs.Nodes.{⊕-assoc}
 use Rattle.grammar.specs.Bounds.{Held}
 use Rattle.locality.specs.Plain.{Out, missed, took, shift, after, seqE, ruleE, plain}
+use Rattle.locality.specs.Holding.{allowed}
+use Rattle.locality.specs.Least.{least}
 use Rattle.locality.specs.PlainLaws.{shift-⊕}
 use Rattle.locality.specs.Brackets.{right, respelt}
 use Rattle.locality.specs.Likeness.{placed, placed-⊕, Like, steady, alike}
-use Rattle.locality.specs.Holding.{allowed, Holds}
-use Rattle.locality.specs.Insides.{inside, Inside, wider}
-use Rattle.locality.specs.Least.{least}
-use Rattle.locality.specs.Finals.{Final, end-final, seq-final}
+use Rattle.locality.specs.Insides.{inside, wider}
+use Rattle.locality.specs.Closings.{Final, end-final, seq-final}
 use Rattle.standing.specs.NestedGrammar.{skip, endianness}
 use Rattle.standing.specs.Appending.{ends, some-decls, tail, core}
 use Rattle.standing.specs.Names.{every}
-use Rattle.standing.specs.Kinds.{Kinded, Kindly, sorted, kinded}
-use Rattle.standing.specs.CommentLengths.{Long, Longs, longs, long-placed}
+use Rattle.standing.specs.Kinds.{Kinded, kinds-of}
+use Rattle.standing.specs.CommentLengths.{Long, longs}
 
 -- ---- the end's node
 abbrev pub eoi : ℕ → Forest
@@ -146,15 +146,15 @@ core-of s h v = go (plain core s) refl (core-final s) (subst (λ (x : Full). Lik
     go (took n F) e d k = (F, e ∙ ap (λ m. took m F) d)
 
 core-held : (s : List ℕ) (F : Forest) → plain core s ≡ took (length s) F → Held 0 (length s) (placed 0 F)
-core-held s F e = wider 0 (0 + length s) 0 (length s) (placed 0 F) (omega arith) (omega arith) (subst (Holds Inside) e (inside core s) 0)
+core-held s F e = wider 0 (0 + length s) 0 (length s) (placed 0 F) (omega arith) (omega arith) (inside core s (length s) F e 0)
 
 core-kinds : (s : List ℕ) (F : Forest) → plain core s ≡ took (length s) F → Kinded (clean (placed 0 F))
 unfolding allowed every skip
-core-kinds s F e = kinded 0 F (subst (Holds Kindly) e (sorted core refl s))
+core-kinds s F e = kinds-of core refl s (length s) F e 0
 
 core-long : (s : List ℕ) (F : Forest) → plain core s ≡ took (length s) F → Long (placed 0 F)
 unfolding allowed least skip
-core-long s F e = long-placed 0 F (subst (Holds Longs) e (longs core refl s))
+core-long s F e = longs core refl s (length s) F e 0
 
 pub whole-of : (s : List ℕ) → valid s ≡ length s → hit (outcome (eval file 0 s)) ≡ true → (w : Forest) × Whole s w
 whole-of s v h = let x = core-of s h v in (placed 0 (x .0), full s (x .0) v (x .1))

@@ -10,17 +10,17 @@ use Rattle.meaning.specs.Forest.{Forest, nil, tree, _⊕_, clean}
 use Rattle.grammar.specs.Nodes.{nil-right}
 use Rattle.grammar.specs.Bounds.{Held}
 use Rattle.locality.specs.Plain.{took, shift, after, plain, size}
+use Rattle.locality.specs.Holding.{allowed}
+use Rattle.locality.specs.Least.{least}
 use Rattle.locality.specs.PlainLaws.{took-part}
 use Rattle.locality.specs.Likeness.{placed, placed-⊕, placed-shift}
-use Rattle.locality.specs.Holding.{allowed, Holds}
-use Rattle.locality.specs.Insides.{Inside, inside, wider}
-use Rattle.locality.specs.Least.{least}
+use Rattle.locality.specs.Insides.{inside, wider}
 use Rattle.locality.specs.ValidTexts.{valid-behind, valid-line}
 use Rattle.standing.specs.NestedGrammar.{skip}
 use Rattle.standing.specs.Appending.{body, core, file-append}
 use Rattle.standing.specs.Names.{every}
-use Rattle.standing.specs.Kinds.{Kinded, Kindly, sorted, kinded}
-use Rattle.standing.specs.CommentLengths.{Long, Longs, longs, long-placed}
+use Rattle.standing.specs.Kinds.{Kinded, kinds-of}
+use Rattle.standing.specs.CommentLengths.{Long, longs}
 use Rattle.standing.specs.Files.{Whole, Core, to-whole, to-core}
 
 -- nodes k bytes later in the source
@@ -69,11 +69,11 @@ pub record Stands (p q b : List ℕ) (k : ℕ) (old w v : Forest) : Type 0 where
 
 body-kinds : (u : List ℕ) (b : Forest) (o n : ℕ) → plain body u ≡ took n b → Kinded (clean (placed o b))
 unfolding allowed every skip
-body-kinds u b o n e = kinded o b (subst (Holds Kindly) e (sorted body refl u))
+body-kinds u b o n e = kinds-of body refl u n b e o
 
 body-long : (u : List ℕ) (b : Forest) (o n : ℕ) → plain body u ≡ took n b → Long (placed o b)
 unfolding allowed least skip
-body-long u b o n e = long-placed o b (subst (Holds Longs) e (longs body refl u))
+body-long u b o n e = longs body refl u n b e o
 
 stands : (p q b : List ℕ) {k : ℕ} {F w v : Forest} → Head p F → length p + k ≡ length q + 1 → valid q ≡ length q → valid (p ++ b) ≡ length (p ++ b) → Core q w → Core (p ++ b) v
     → Stands p q b k (placed 0 F) w v
@@ -85,7 +85,7 @@ stands p q b {k} {F} {w} {v} h n vq vb cq cb =
     file-append q b (cq .bare) (cq .takes) ∙ ap (after (suc (length q)) (cq .bare)) (x .1 .0)
     ∙ ap (λ i. took i (cq .bare ⊕ shift (suc (length q)) g)) (omega (arith, length-append q (10 ∷ b), d)) in
     let at-new : Held (length p) (length p + length b) (placed (length p) g)
-    = subst (λ i. Held (length p) (length p + i) (placed (length p) g)) d (subst (Holds Inside) (x .1 .0) (inside body b) (length p)) in
+    = subst (λ i. Held (length p) (length p + i) (placed (length p) g)) d (inside body b (size (plain body b)) g (x .1 .0) (length p)) in
     let m : 0 + suc (length q) ≡ length p + k = omega arith in
     let here : placed 0 (cq .bare ⊕ shift (suc (length q)) g) ≡ w ⊕ movedBy k (placed (length p) g) =
     placed-⊕ 0 (cq .bare) (shift (suc (length q)) g)

@@ -1,19 +1,21 @@
 -- What a part of the grammar looks at past its end, as a list of what may be tried there after blanks; and the rules by which it is
 -- settled.
-use mathlib.Core.Path.{_≡_, refl}
+use mathlib.Core.Path.{_≡_, refl, ap}
 use mathlib.Core.Bool.{Bool, true, false, not}
-use mathlib.Core.List.{List, [], _∷_, _++_}
-use Prim.Native.Nat.{ℕ, _≤_, max}
+use mathlib.Core.List.{List, [], _∷_, _++_, append-nil}
+use Prim.Native.Nat.{ℕ, _≤_, max, _+_}
 use native.Mathlib.Omega.{arith}
-use borrow.Author.Tests.{not-true}
+use borrow.Author.Tests.{eqb-false, ne-eqb, not-true}
+use lib.Dec.{eqb}
 use lib.ListN.{drop}
 use Rattle.meaning.specs.Choice.{both}
 use Rattle.meaning.specs.Peg.{Peg, lit, seq, star, opt}
 use Rattle.text.specs.ChoiceLaws.{both-is}
-use Rattle.locality.specs.Plain.{Out, missed, took, plain, Took}
+use Rattle.locality.specs.Plain.{Out, missed, took, plain, Took, Holds}
+use Rattle.locality.specs.Least.{nullable, least}
 use Rattle.locality.specs.Looks.{seqF, far}
 use Rattle.locality.specs.Absorbing.{Absorbs, lost, more, abs-le, abs-up, abs-more, abs-seq, far-seq, abs-opt, far-opt, lost-seq, abs-star, far-star, lost-le}
-use Rattle.locality.specs.Firsts.{sound, Quiet, Span, firsts, nullable, offs, offs-sound, calm, calm-append, abs-first, abs-first₂}
+use Rattle.locality.specs.Firsts.{Span, firsts, offs, offs-sound, calm, calm-append, abs-first, abs-first₂, near, idle}
 use Rattle.locality.specs.Literals.{byte, byte-far, far-lit}
 use Rattle.locality.specs.Failures.{part, lost-star}
 use Rattle.standing.specs.NestedGrammar.{skip}
@@ -24,21 +26,29 @@ ahead [] s = far skip s
 ahead (q ∷ Q) s = max (far (seq skip q) s) (ahead Q s)
 
 unfoldable pub spans : List Peg → List Span
-unfolding firsts nullable skip
+unfolding firsts least skip
 spans [] = firsts skip
 spans (q ∷ Q) = firsts (seq skip q) ++ spans Q
 
 -- b takes a byte, which is no blank and starts nothing of Q
 unfoldable pub check : List Peg → Peg → Bool
-unfolding firsts nullable skip spans
+unfolding firsts least skip spans
 check Q b = both (offs (spans Q) (firsts b)) (not (nullable b))
+
+-- so does what begins with it
+pub seq-check : (Q : List Peg) (b r : Peg) → check Q b ≡ true → check Q (seq b r) ≡ true
+unfolding check
+seq-check Q b r c =
+    let i = both-is (offs (spans Q) (firsts b)) (not (nullable b)) c in
+    let v : eqb (least b) 0 ≡ false = not-true (eqb (least b) 0) (i .1) in
+    rw (v, append-nil (firsts b), i .0) (ap not (ne-eqb (least b + least r) 0 (λ z. eqb-false (least b) 0 v (omega arith))))
 
 ahead-near : (Q : List Peg) (s : List ℕ) → calm (spans Q) s ≡ true → ahead Q s ≤ 1
 unfolding ahead spans
-ahead-near [] s e = sound skip s e .0
+ahead-near [] s e = near skip s e
 ahead-near (q ∷ Q) s e =
     let i = calm-append (firsts (seq skip q)) (spans Q) s e in
-    omega (arith, sound (seq skip q) s (i .0) .0, ahead-near Q s (i .1))
+    omega (arith, near (seq skip q) s (i .0), ahead-near Q s (i .1))
 
 pub first : {e : List ℕ → ℕ} (Q : List Peg) (b : Peg) → check Q b ≡ true → Absorbs (ahead Q) b e
 unfolding check
@@ -92,17 +102,17 @@ then-lost Q a f t l = lost-seq (seq skip a) f (abs-seq (looks Q) t) (lost-seq a 
 -- what starts with no blank looks no further than blanks and then it
 pub bare : (q : Peg) → offs (firsts skip) (firsts q) ≡ true → (s : List ℕ) → far q s ≤ far (seq skip q) s
 unfolding far
-bare q d s = go (plain skip s) (skip-took s) (λ e. sound skip s e .1) (calm (firsts skip) s) refl
+bare q d s = go (plain skip s) (skip-took s) (idle skip s) (calm (firsts skip) s) refl
   where
     off : (t : List ℕ) → calm (firsts skip) t ≡ false → calm (firsts q) t ≡ true
     off [] e = refl
     off (c ∷ t) e = offs-sound (firsts skip) (firsts q) c d e
 
-    go : (o : Out) → Took o → (calm (firsts skip) s ≡ true → Quiet o (nullable skip)) → (v : Bool) → calm (firsts skip) s ≡ v
+    go : (o : Out) → Took o → (calm (firsts skip) s ≡ true → Holds (λ n f. (n ≡ 0) × (least skip ≡ 0)) o) → (v : Bool) → calm (firsts skip) s ≡ v
         → far q s ≤ seqF (far skip s) o (λ n. far q (drop n s))
     go missed i j v e = absurd i
     go (took n f) i j true e = let z : n ≡ 0 = j e .0 in rw z (omega arith)
-    go (took n f) i j false e = omega (arith, sound q s (off s e) .0, skip-pos s)
+    go (took n f) i j false e = omega (arith, near q s (off s e), skip-pos s)
 
 abbrev pub Dull : Peg → Type 0
 Dull q = offs (firsts skip) (firsts q) ≡ true
@@ -112,9 +122,9 @@ pub unskip : {e : List ℕ → ℕ} (q p : Peg) → check [] p ≡ true → Abso
 unfolding check far
 unskip q p c a =
     let i = both-is (offs (firsts skip) (firsts p)) (not (nullable p)) c in
-    abs-first₂ (firsts skip) (λ s e. go s (plain skip s) (sound skip s e .0) (sound skip s e .1)) (i .0) (not-true (nullable p) (i .1)) a
+    abs-first₂ (firsts skip) (λ s e. go s (plain skip s) (near skip s e) (idle skip s e)) (i .0) (not-true (nullable p) (i .1)) a
   where
-    go : (s : List ℕ) (o : Out) → far skip s ≤ 1 → Quiet o (nullable skip) → seqF (far skip s) o (λ n. far q (drop n s)) ≤ max 1 (far q s)
+    go : (s : List ℕ) (o : Out) → far skip s ≤ 1 → Holds (λ n f. (n ≡ 0) × (least skip ≡ 0)) o → seqF (far skip s) o (λ n. far q (drop n s)) ≤ max 1 (far q s)
     go s missed l z = omega arith
     go s (took n f) l z = let y : n ≡ 0 = z .0 in rw y (omega arith)
 
@@ -139,11 +149,11 @@ module _ (item : Peg) (Q : List Peg) (fi : Absorbs (far item) item (ahead Q)) (k
 
   far-next : Absorbs (far (seq skip (step item))) (seq skip (step item)) (ahead (step item ∷ Q))
   unfolding check
-  far-next = blanks (solid [] refl far-step) .bounded
+  far-next = blanks (solid [] (seq-check [] comma (seq skip item) refl) far-step) .bounded
 
   next-settles : Absorbs (ahead (step item ∷ Q)) (seq skip (step item)) (ahead (step item ∷ Q))
   unfolding check ahead more
-  next-settles = abs-more far-next (blanks (solid Q kc far-step) .settles)
+  next-settles = abs-more far-next (blanks (solid Q (seq-check Q comma (seq skip item) kc) far-step) .settles)
 
   far-steps : Absorbs (far (steps item)) (steps item) (ahead (step item ∷ Q))
   unfolding ahead
@@ -154,7 +164,7 @@ module _ (item : Peg) (Q : List Peg) (fi : Absorbs (far item) item (ahead Q)) (k
   list-tail : Tail Q (opt (steps item)) (ahead (step item ∷ Q))
   unfolding check ahead
   list-tail =
-      opt-last Q (step item ∷ Q) kc far-steps (λ s. omega arith)
+      opt-last Q (step item ∷ Q) (seq-check Q (step item) (star (seq skip (step item))) (seq-check Q comma (seq skip item) kc)) far-steps (λ s. omega arith)
       (λ s. omega (arith, lost-star (step item) (seq skip (step item)) s, bare (step item) refl s))
 
   comma-settles : Absorbs (ahead (step item ∷ Q)) comma (ahead (item ∷ step item ∷ Q))
