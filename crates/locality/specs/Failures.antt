@@ -47,12 +47,14 @@ lost-star a b s = go (plain a s)
     took-after n y f missed i = absurd i
     took-after n y f (took m g) i = omega arith
 
-    go : (o : Out) → lostF (seqE o (λ n. starE (plain b) (suc (length (drop n s))) (drop n s))) (seqF (far a s) o (λ n. starF (plain b) (far b) (suc (length (drop n s))) (drop n s))) ≤ far a s
+    go : (o : Out) → lostF (seqE o (λ n. starE (plain b) (suc (length (drop n s))) (drop n s)))
+        (seqF (far a s) o (λ n. starF (plain b) (far b) (suc (length (drop n s))) (drop n s))) ≤ far a s
     go missed = omega arith
     go (took n f) =
         omega (
           arith,
-          took-after n (max (far a s) (n + starF (plain b) (far b) (suc (length (drop n s))) (drop n s))) f (starE (plain b) (suc (length (drop n s))) (drop n s))
+          took-after n (max (far a s) (n + starF (plain b) (far b) (suc (length (drop n s))) (drop n s))) f
+              (starE (plain b) (suc (length (drop n s))) (drop n s))
               (star-took (plain b) (suc (length (drop n s))) (drop n s)),
         )
 
@@ -152,7 +154,8 @@ unfolding lost plain far
 lost-alt₁ {e} {x} y t a = record { at = λ s. go s (plain x s) (a .at s) }
   where
     go : (s : List ℕ) (o : Out) → Bound o (lostF (seqE o (λ n. plain t (drop n s))) (seqF (far x s) o (λ n. far t (drop n s)))) (λ n. e (drop n s))
-        → Bound o (lostF (seqE (altE o (plain y s)) (λ n. plain t (drop n s))) (seqF (altF (far x s) o (far y s)) (altE o (plain y s)) (λ n. far t (drop n s)))) (λ n. e (drop n s))
+        → Bound o (lostF (seqE (altE o (plain y s)) (λ n. plain t (drop n s)))
+        (seqF (altF (far x s) o (far y s)) (altE o (plain y s)) (λ n. far t (drop n s)))) (λ n. e (drop n s))
     go s missed i = tt
     go s (took n f) i = i
 

@@ -140,7 +140,8 @@ unfolding plain far lost nought
 lost-lit₁ l m a d = record { at = λ s. go s (prefixb m s) refl }
   where
     go : (s : List ℕ) (v : Bool) → prefixb m s ≡ v
-        → Bound (when v (length m)) (lostF (seqE (when (prefixb l s) (length l)) (λ n. plain a (drop n s))) (seqF (litF l s) (when (prefixb l s) (length l)) (λ n. far a (drop n s)))) (λ n. 0)
+        → Bound (when v (length m)) (lostF (seqE (when (prefixb l s) (length l)) (λ n. plain a (drop n s)))
+        (seqF (litF l s) (when (prefixb l s) (length l)) (λ n. far a (drop n s)))) (λ n. 0)
     go s true q = let i = differ-far l m s d q in rw (i .1) (omega (arith, i .0))
     go s false q = tt
 

@@ -38,10 +38,12 @@ pub record Takes (g : Peg) (o : ℕ) (t : List ℕ) (n : ℕ) (w : Forest) : Typ
   pub is : eval (bytewise g) o t ≡ held n mark w
 
 -- g, which is q in another spelling, and q looks at nothing behind its end
-pub lasting : (g q : Peg) → right g ≡ right q → steady g ≡ true → Absorbs (far q) q nought → (o n : ℕ) (s u : List ℕ) (w : Forest) → Takes g o s n w → Takes g o (take n s ++ u) n w
+pub lasting : (g q : Peg) → right g ≡ right q → steady g ≡ true → Absorbs (far q) q nought → (o n : ℕ) (s u : List ℕ) (w : Forest) → Takes g o s n w
+    → Takes g o (take n s ++ u) n w
 lasting g q e h a o n s u w t = go (plain g s) refl (subst (λ (x : Full). Like o x (plain g s)) (t .is) (alike g h o s))
   where
-    back : (F : Forest) → w ≡ placed o F → plain g (take n s ++ u) ≡ took n F → (x : Full) → eval (bytewise g) o (take n s ++ u) ≡ x → Like o x (plain g (take n s ++ u)) → Takes g o (take n s ++ u) n w
+    back : (F : Forest) → w ≡ placed o F → plain g (take n s ++ u) ≡ took n F → (x : Full) → eval (bytewise g) o (take n s ++ u) ≡ x
+        → Like o x (plain g (take n s ++ u)) → Takes g o (take n s ++ u) n w
     back F p k (failed f) r l = absurd (subst (Like o (failed f)) k l)
     back F p k (held m f v) r l =
         let z = subst (Like o (held m f v)) k l in

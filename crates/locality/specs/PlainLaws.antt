@@ -25,7 +25,8 @@ shift-zero (tree r s n c f) = ap₂ (λ (x : ℕ) (y : Forest). tree r x n c y) 
 pub after-after : (a b : ℕ) (f g : Forest) (o : Out) → after a f (after b g o) ≡ after (a + b) (f ⊕ shift a g) o
 after-after a b f g missed = refl
 after-after a b f g (took m h) =
-    ap₂ took (omega arith) (ap (λ (x : Forest). f ⊕ x) (shift-⊕ a g (shift b h) ∙ ap (λ (x : Forest). shift a g ⊕ x) (shift-shift a b h)) ∙ sym (⊕-assoc f (shift a g) (shift (a + b) h)))
+    ap₂ took (omega arith) (ap (λ (x : Forest). f ⊕ x) (shift-⊕ a g (shift b h) ∙ ap (λ (x : Forest). shift a g ⊕ x) (shift-shift a b h))
+    ∙ sym (⊕-assoc f (shift a g) (shift (a + b) h)))
 
 pub after-zero : (o : Out) → after 0 nil o ≡ o
 after-zero missed = refl
@@ -58,12 +59,14 @@ unfolding plain
 seq-is a b s = refl
 
 -- a first part made longer in front
-pub seq-after : (p : Peg) (n : ℕ) (f : Forest) (o : Out) (t : List ℕ) → seqE (after n f o) (λ j. plain p (drop j t)) ≡ after n f (seqE o (λ j. plain p (drop j (drop n t))))
+pub seq-after : (p : Peg) (n : ℕ) (f : Forest) (o : Out) (t : List ℕ)
+    → seqE (after n f o) (λ j. plain p (drop j t)) ≡ after n f (seqE o (λ j. plain p (drop j (drop n t))))
 seq-after p n f missed t = refl
 seq-after p n f (took m g) t =
     ap (λ x. after (n + m) (f ⊕ shift n g) (plain p x)) (sym (drop-drop m n t)) ∙ sym (after-after n m f g (plain p (drop m (drop n t))))
 
-pub seq-front : (a b : Peg) (n : ℕ) (f : Forest) (s t : List ℕ) → drop n s ≡ t → plain a s ≡ after n f (plain a t) → plain (seq a b) s ≡ after n f (plain (seq a b) t)
+pub seq-front : (a b : Peg) (n : ℕ) (f : Forest) (s t : List ℕ) → drop n s ≡ t → plain a s ≡ after n f (plain a t)
+    → plain (seq a b) s ≡ after n f (plain (seq a b) t)
 seq-front a b n f s t d e =
     seq-is a b s ∙ ap (λ o. seqE o (λ j. plain b (drop j s))) e ∙ seq-after b n f (plain a t) s
     ∙ ap (after n f) (ap (λ x. seqE (plain a t) (λ j. plain b (drop j x))) d ∙ sym (seq-is a b t))

@@ -76,7 +76,13 @@ done-far s d = rw (still-star ws s (d .0)) (omega arith)
 
 block-pos : (s : List ℕ) → 1 ≤ far block s
 unfolding far
-block-pos s = omega (arith, lit-pos 47 (42 ∷ []) s, seqF-ge (litF (47 ∷ 42 ∷ []) s) (plain (lit (47 ∷ 42 ∷ [])) s) (λ n. far (seq (star (seq (neg (lit (42 ∷ 47 ∷ []))) any)) (lit (42 ∷ 47 ∷ []))) (drop n s)))
+block-pos s =
+    omega (
+      arith,
+      lit-pos 47 (42 ∷ []) s,
+      seqF-ge (litF (47 ∷ 42 ∷ []) s) (plain (lit (47 ∷ 42 ∷ [])) s)
+          (λ n. far (seq (star (seq (neg (lit (42 ∷ 47 ∷ []))) any)) (lit (42 ∷ 47 ∷ []))) (drop n s)),
+    )
 
 comment-ge : (s : List ℕ) → far block s ≤ far comment s
 unfolding far
@@ -88,7 +94,8 @@ turns-pos s = omega (arith, block-pos s, comment-ge s, seq-ge comment (star ws) 
 
 ws-pos : (s : List ℕ) → 1 ≤ far ws s
 unfolding far
-ws-pos s = omega (arith, lit-pos 32 [] s, altF-ge (litF (32 ∷ []) s) (plain (lit (32 ∷ [])) s) (far (alt (lit (10 ∷ [])) (alt (lit (13 ∷ [])) (lit (9 ∷ [])))) s))
+ws-pos s =
+    omega (arith, lit-pos 32 [] s, altF-ge (litF (32 ∷ []) s) (plain (lit (32 ∷ [])) s) (far (alt (lit (10 ∷ [])) (alt (lit (13 ∷ [])) (lit (9 ∷ [])))) s))
 
 pub skip-pos : (s : List ℕ) → 1 ≤ far skip s
 unfolding skip
@@ -97,7 +104,8 @@ skip-pos s = omega (arith, ws-pos s, star-ge ws s, seq-ge (star ws) (star (seq c
 turns-step : Absorbs (far (star turn)) turn (far (star turn))
 turns-step = record { at = λ s. rw (star-unfold turn s .1) (go s (plain turn s) (far-turn .at s)) }
   where
-    go : (s : List ℕ) (o : Out) → Bound o (far turn s) (λ n. one (drop n s)) → Bound o (starSF (far turn s) o (λ n. far (star turn) (drop n s))) (λ n. far (star turn) (drop n s))
+    go : (s : List ℕ) (o : Out) → Bound o (far turn s) (λ n. one (drop n s))
+        → Bound o (starSF (far turn s) o (λ n. far (star turn) (drop n s))) (λ n. far (star turn) (drop n s))
     go s missed i = tt
     go s (took zero f) i = omega (arith, star-ge turn s)
     go s (took (suc n) f) i = omega (arith, one-le (drop (suc n) s), turns-pos (drop (suc n) s))
@@ -122,7 +130,8 @@ look q = record { at = λ s. go s (plain skip s) (far-skip₁ .at s) (skip-ends 
 pub far-skip : Absorbs (far skip) skip (far skip)
 far-skip = record { at = λ s. go s (plain skip s) (far-skip₁ .at s) (skip-ends s) }
   where
-    go : (s : List ℕ) (o : Out) → Bound o (far skip s) (λ n. far (star turn) (drop n s)) → Holds (λ n f. Done (drop n s)) o → Bound o (far skip s) (λ n. far skip (drop n s))
+    go : (s : List ℕ) (o : Out) → Bound o (far skip s) (λ n. far (star turn) (drop n s)) → Holds (λ n f. Done (drop n s)) o
+        → Bound o (far skip s) (λ n. far skip (drop n s))
     go s missed i d = tt
     go s (took n f) i d = omega (arith, done-far (drop n s) d)
 

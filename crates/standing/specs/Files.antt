@@ -107,7 +107,9 @@ full s F v e = go (eval file 0 s) refl (subst (λ (x : Full). Like 0 x (plain fi
         record {
           good = v;
           mark = f;
-          is = q ∙ ap₂ (λ (a : ℕ) (b : Forest). held a f b) (k .0) (k .1 ∙ ap (λ c. tree Rule.file 0 (length s) c nil) (placed-⊕ 0 F (eoi (length s)) ∙ ap (λ i. placed 0 F ⊕ eoi i) here));
+          is =
+              q ∙ ap₂ (λ (a : ℕ) (b : Forest). held a f b) (k .0)
+              (k .1 ∙ ap (λ c. tree Rule.file 0 (length s) c nil) (placed-⊕ 0 F (eoi (length s)) ∙ ap (λ i. placed 0 F ⊕ eoi i) here));
         }
 
 -- a node less at the end
@@ -165,4 +167,12 @@ to-core {s} {w} h =
     let y = full s (x .0) (h .good) (x .1) in
     let p : w ≡ placed 0 (x .0) =
     sym (front-is w (length s)) ∙ ap (λ (z : Full). front (nodes-of z)) (sym (h .is) ∙ y .is) ∙ front-is (placed 0 (x .0)) (length s) in
-    record { bare = x .0; takes = x .1; places = p; holds = rw p (core-held s (x .0) (x .1)); kinds = rw p (core-kinds s (x .0) (x .1)); long = rw p (core-long s (x .0) (x .1)) }
+    record {
+      bare = x .0;
+      takes = x .1;
+      places = p;
+      holds = rw p (core-held s (x .0) (x .1));
+      kinds = rw p (core-kinds s (x .0) (x .1));
+      long = rw p
+          (core-long s (x .0) (x .1));
+    }

@@ -75,7 +75,8 @@ body-long : (u : List ℕ) (b : Forest) (o n : ℕ) → plain body u ≡ took n 
 unfolding allowed least skip
 body-long u b o n e = longs body refl u n b e o
 
-stands : (p q b : List ℕ) {k : ℕ} {F w v : Forest} → Head p F → length p + k ≡ length q + 1 → valid q ≡ length q → valid (p ++ b) ≡ length (p ++ b) → Core q w → Core (p ++ b) v
+stands : (p q b : List ℕ) {k : ℕ} {F w v : Forest} → Head p F → length p + k ≡ length q + 1 → valid q ≡ length q → valid (p ++ b) ≡ length (p ++ b)
+    → Core q w → Core (p ++ b) v
     → Stands p q b k (placed 0 F) w v
 stands p q b {k} {F} {w} {v} h n vq vb cq cb =
     let x = took-part (length p) (length (p ++ b)) F (cb .bare) (plain body b) (sym (h .takes b) ∙ cb .takes) in
@@ -95,7 +96,9 @@ stands p q b {k} {F} {w} {v} h n vq vb cq cb =
       follows = record {
         is = cb .places ∙ ap (placed 0) (x .1 .1 .1) ∙ placed-⊕ 0 F (shift (length p) g)
             ∙ ap (λ (y : Forest). placed 0 F ⊕ y) (placed-shift 0 (length p) g ∙ ap (λ i. placed i g) (omega arith));
-        holds = wider (length p) (length p + length b) (length p) (length (p ++ b)) (placed (length p) g) (omega arith) (omega (arith, length-append p b)) at-new;
+        holds =
+            wider (length p) (length p + length b) (length p) (length (p ++ b)) (placed (length p) g) (omega arith)
+            (omega (arith, length-append p b)) at-new;
         kinds = body-kinds b g (length p) (size (plain body b)) (x .1 .0);
         long = body-long b g (length p) (size (plain body b)) (x .1 .0);
       };
@@ -103,5 +106,6 @@ stands p q b {k} {F} {w} {v} h n vq vb cq cb =
     }
 
 -- THE THEOREM, of nodes: q, a newline and b is whole, with the nodes of q and then those that b had behind p
-pub standing : (p q b : List ℕ) {k : ℕ} {F w v : Forest} → Head p F → length p + k ≡ length q + 1 → Whole q w → Whole (p ++ b) v → Stands p q b k (placed 0 F) w v
+pub standing : (p q b : List ℕ) {k : ℕ} {F w v : Forest} → Head p F → length p + k ≡ length q + 1 → Whole q w → Whole (p ++ b) v
+    → Stands p q b k (placed 0 F) w v
 standing p q b h n x y = stands p q b h n (x .good) (y .good) (to-core x) (to-core y)

@@ -88,7 +88,8 @@ pub then : {Q : List Peg} {a b : Peg} {e : List ℕ → ℕ} → Absorbs (far a)
 then f t = far-seq f (blanks t .settles) (blanks t .bounded)
 
 -- c? at the end
-pub opt-last : (Q R : List Peg) {c : Peg} → check Q c ≡ true → Absorbs (far c) c (ahead R) → ((s : List ℕ) → ahead Q s ≤ ahead R s) → ((s : List ℕ) → lost c s ≤ ahead R s) → Tail Q (opt c) (ahead R)
+pub opt-last : (Q R : List Peg) {c : Peg} → check Q c ≡ true → Absorbs (far c) c (ahead R) → ((s : List ℕ) → ahead Q s ≤ ahead R s)
+    → ((s : List ℕ) → lost c s ≤ ahead R s) → Tail Q (opt c) (ahead R)
 opt-last Q R {c} k f l m = record { settles = abs-opt (first Q c k) l; bounded = far-opt f m }
 
 -- what is after: a tail, then a tail
@@ -96,7 +97,8 @@ pub join-tail : {Q R : List Peg} {a b : Peg} {e : List ℕ → ℕ} → Tail Q a
 join-tail {Q} {R} t u = record { settles = abs-seq (t .settles) (blanks u .settles); bounded = far-seq (t .bounded) (blanks u .settles) (blanks u .bounded) }
 
 -- a failed alternative with the same front
-pub then-lost : {x b : Peg} {e : List ℕ → ℕ} (Q : List Peg) (a : Peg) → Absorbs (far x) x (ahead Q) → Absorbs (ahead Q) b e → Absorbs (lost a) b e → Absorbs (lost (seq x (seq skip a))) (seq x (seq skip b)) e
+pub then-lost : {x b : Peg} {e : List ℕ → ℕ} (Q : List Peg) (a : Peg) → Absorbs (far x) x (ahead Q) → Absorbs (ahead Q) b e → Absorbs (lost a) b e
+    → Absorbs (lost (seq x (seq skip a))) (seq x (seq skip b)) e
 then-lost Q a f t l = lost-seq (seq skip a) f (abs-seq (looks Q) t) (lost-seq a far-skip₀ (abs-le (base Q) t) l)
 
 -- what starts with no blank looks no further than blanks and then it

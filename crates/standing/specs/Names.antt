@@ -21,7 +21,8 @@ pub names-⊕ : (f g : Forest) → names (f ⊕ g) ≡ names f ++ names g
 names-⊕ nil g = refl
 names-⊕ (tree r s l k more) g = go (is Rule.COMMENT r) (names-⊕ more g)
   where
-    go : (b : Bool) → names (more ⊕ g) ≡ names more ++ names g → pick b (names (more ⊕ g)) (r ∷ names (more ⊕ g)) ≡ pick b (names more) (r ∷ names more) ++ names g
+    go : (b : Bool) → names (more ⊕ g) ≡ names more ++ names g
+        → pick b (names (more ⊕ g)) (r ∷ names (more ⊕ g)) ≡ pick b (names more) (r ∷ names more) ++ names g
     go true e = e
     go false e = ap (λ (x : List Rule). r ∷ x) e
 
