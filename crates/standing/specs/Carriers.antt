@@ -11,8 +11,8 @@ use Rattle.meaning.specs.Forest.{Forest, nil, tree}
 use Rattle.meaning.specs.Places.{at, placeAt}
 use Rattle.meaning.specs.Tables.{Table, Item, int, row}
 use Rattle.grammar.specs.Bounds.{Held}
-use Rattle.standing.specs.Joined.{movedBy}
 use Rattle.meaning.specs.Moving.{Move, Sort, offset, line, column, name, first, condition, unless-none, unless-empty, moved-word, Moving, _moves-as_, moving, moved-words, moved-row, breaks}
+use Rattle.standing.specs.Joinings.{movedBy}
 use Rattle.standing.specs.Places.{on-line, drawn-back, end-of, place-before, place-behind}
 use Rattle.standing.specs.MovedItems.{moved-item, moved-items, Carries}
 use Rattle.standing.specs.MovedRows.{moved-place, unless-some}

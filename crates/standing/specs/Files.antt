@@ -3,30 +3,31 @@
 use mathlib.Core.Path.{_≡_, refl, sym, ap, ap₂, _∙_, subst}
 use mathlib.Core.Bool.{Bool, true, false}
 use mathlib.Core.List.{List, [], _∷_}
-use Prim.Native.Nat.{ℕ, _+_, _≤_}
+use Prim.Native.Nat.{ℕ, _+_}
 use native.Mathlib.Omega.{arith}
-use lib.ListN.{length, drop, length-drop}
-use Rattle.meaning.specs.Rules.{Rule}
+use lib.ListN.{length, drop}
 use Rattle.meaning.specs.Utf8.{valid}
+use Rattle.meaning.specs.Rules.{Rule}
 use Rattle.meaning.specs.Peg.{Peg, lit, end, seq, rule, hit}
 use Rattle.meaning.specs.Forest.{Forest, nil, tree, _⊕_, clean, outcome, eval, Out as Full, missed as failed, took as held}
 use Rattle.meaning.specs.Pdl.{file, rules}
 use Rattle.grammar.specs.Bytewise.{file-joined}
+use Rattle.grammar.specs.Nodes.{⊕-assoc}
 use Rattle.grammar.specs.Bounds.{Held}
-use Rattle.standing.specs.Plain.{Out, missed, took, shift, join, after, seqE, ruleE, plain}
-use Rattle.standing.specs.Nested.{skip, endianness}
-use Rattle.standing.specs.Blank.{took-le}
-use Rattle.standing.specs.Own.{join-assoc, shift-join}
-use Rattle.standing.specs.Append.{ends, some-decls, tail, core}
-use Rattle.standing.specs.Righted.{right, respelt}
-use Rattle.standing.specs.Likeness.{placed, placed-join, Like, steady, alike}
-use Rattle.standing.specs.Kinds.{Kinded, Long}
-use Rattle.standing.specs.Longs.{Longs, longs, long-placed}
-use Rattle.standing.specs.Least.{least}
-use Rattle.standing.specs.Nodes.{allowed, Holds}
-use Rattle.standing.specs.Spelling.{every, Kindly, sorted, kinded}
+use Rattle.locality.specs.Plain.{Out, missed, took, shift, after, seqE, ruleE, plain}
+use Rattle.locality.specs.Holding.{allowed}
+use Rattle.locality.specs.Least.{least}
+use Rattle.locality.specs.PlainLaws.{shift-⊕}
+use Rattle.locality.specs.Brackets.{right, respelt}
+use Rattle.locality.specs.Likeness.{placed, placed-⊕, Like, steady, alike}
 use Rattle.grammar.specs.Bounds.{wider}
-use Rattle.standing.specs.Insides.{inside, Inside}
+use Rattle.locality.specs.Insides.{inside}
+use Rattle.locality.specs.Closings.{Final, end-final, seq-final}
+use Rattle.standing.specs.NestedGrammar.{skip, endianness}
+use Rattle.standing.specs.Sources.{ends, some-decls, tail, core}
+use Rattle.standing.specs.Names.{every}
+use Rattle.standing.specs.Kinds.{Kinded, kinds-of}
+use Rattle.standing.specs.CommentLengths.{Long, longs}
 
 -- ---- the end's node
 abbrev pub eoi : ℕ → Forest
@@ -34,11 +35,11 @@ eoi n = tree Rule.EOI n 0 nil nil
 
 abbrev closed : Out → Out
 closed missed = missed
-closed (took n f) = took n (join f (eoi n))
+closed (took n f) = took n (f ⊕ eoi n)
 
 after-closed : (n : ℕ) (f : Forest) (o : Out) → after n f (closed o) ≡ closed (after n f o)
 after-closed n f missed = refl
-after-closed n f (took m g) = ap (took (n + m)) (ap (join f) (shift-join n g (eoi m)) ∙ sym (join-assoc f (shift n g) (eoi (n + m))))
+after-closed n f (took m g) = ap (took (n + m)) (ap (λ (x : Forest). f ⊕ x) (shift-⊕ n g (eoi m)) ∙ sym (⊕-assoc f (shift n g) (eoi (n + m))))
 
 seq-closed : (a b c : Peg) → ((s : List ℕ) → plain b s ≡ closed (plain c s)) → (s : List ℕ) → plain (seq a b) s ≡ closed (plain (seq a c) s)
 unfolding plain
@@ -73,28 +74,6 @@ is-steady = refl
 file-is : (s : List ℕ) → plain file s ≡ ruleE Rule.file (closed (plain core s))
 file-is s = respelt file (rule Rule.file shut) spelt s ∙ unfold plain in ap (ruleE Rule.file) (shut-is s)
 
--- ---- what matches takes all
-abbrev Final : List ℕ → Out → Type 0
-Final s missed = Unit {0}
-Final s (took n f) = n ≡ length s
-
-end-final : (s : List ℕ) → Final s (plain end s)
-unfolding plain
-end-final [] = refl
-end-final (x ∷ s) = tt
-
-seq-final : (a b : Peg) → ((s : List ℕ) → Final s (plain b s)) → (s : List ℕ) → Final s (plain (seq a b) s)
-unfolding plain
-seq-final a b h s = go (plain a s) refl
-  where
-    last : (n : ℕ) (f : Forest) (o : Out) → n ≤ length s → Final (drop n s) o → Final s (after n f o)
-    last n f missed l q = tt
-    last n f (took m g) l q = omega (arith, length-drop n s)
-
-    go : (o : Out) → plain a s ≡ o → Final s (seqE o (λ n. plain b (drop n s)))
-    go missed e = tt
-    go (took n f) e = last n f (plain b (drop n s)) (took-le a s n f e) (h (drop n s))
-
 core-final : (s : List ℕ) → Final s (plain core s)
 core-final = seq-final (lit []) _ (seq-final skip _ (seq-final endianness _ (seq-final skip _ (seq-final some-decls _ (seq-final skip end end-final)))))
 
@@ -119,7 +98,7 @@ full s F v e = go (eval file 0 s) refl (subst (λ (x : Full). Like 0 x (plain fi
     here : 0 + length s ≡ length s
     here = omega arith
 
-    said : plain file s ≡ took (length s) (tree Rule.file 0 (length s) (join F (eoi (length s))) nil)
+    said : plain file s ≡ took (length s) (tree Rule.file 0 (length s) (F ⊕ eoi (length s)) nil)
     said = file-is s ∙ ap (λ o. ruleE Rule.file (closed o)) e
 
     go : (x : Full) → eval file 0 s ≡ x → Like 0 x (plain file s) → Whole s (placed 0 F)
@@ -129,7 +108,9 @@ full s F v e = go (eval file 0 s) refl (subst (λ (x : Full). Like 0 x (plain fi
         record {
           good = v;
           mark = f;
-          is = q ∙ ap₂ (λ (a : ℕ) (b : Forest). held a f b) (k .0) (k .1 ∙ ap (λ c. tree Rule.file 0 (length s) c nil) (placed-join 0 F (eoi (length s)) ∙ ap (λ i. placed 0 F ⊕ eoi i) here));
+          is =
+              q ∙ ap₂ (λ (a : ℕ) (b : Forest). held a f b) (k .0)
+              (k .1 ∙ ap (λ c. tree Rule.file 0 (length s) c nil) (placed-⊕ 0 F (eoi (length s)) ∙ ap (λ i. placed 0 F ⊕ eoi i) here));
         }
 
 -- a node less at the end
@@ -168,15 +149,15 @@ core-of s h v = go (plain core s) refl (core-final s) (subst (λ (x : Full). Lik
     go (took n F) e d k = (F, e ∙ ap (λ m. took m F) d)
 
 core-held : (s : List ℕ) (F : Forest) → plain core s ≡ took (length s) F → Held 0 (length s) (placed 0 F)
-core-held s F e = wider 0 (0 + length s) 0 (length s) (placed 0 F) (omega arith) (omega arith) (subst (Holds Inside) e (inside core s) 0)
+core-held s F e = wider 0 (0 + length s) 0 (length s) (placed 0 F) (omega arith) (omega arith) (inside core s (length s) F e 0)
 
 core-kinds : (s : List ℕ) (F : Forest) → plain core s ≡ took (length s) F → Kinded (clean (placed 0 F))
 unfolding allowed every skip
-core-kinds s F e = kinded 0 F (subst (Holds Kindly) e (sorted core refl s))
+core-kinds s F e = kinds-of core refl s (length s) F e 0
 
 core-long : (s : List ℕ) (F : Forest) → plain core s ≡ took (length s) F → Long (placed 0 F)
 unfolding allowed least skip
-core-long s F e = long-placed 0 F (subst (Holds Longs) e (longs core refl s))
+core-long s F e = longs core refl s (length s) F e 0
 
 pub whole-of : (s : List ℕ) → valid s ≡ length s → hit (outcome (eval file 0 s)) ≡ true → (w : Forest) × Whole s w
 whole-of s v h = let x = core-of s h v in (placed 0 (x .0), full s (x .0) v (x .1))
@@ -187,4 +168,12 @@ to-core {s} {w} h =
     let y = full s (x .0) (h .good) (x .1) in
     let p : w ≡ placed 0 (x .0) =
     sym (front-is w (length s)) ∙ ap (λ (z : Full). front (nodes-of z)) (sym (h .is) ∙ y .is) ∙ front-is (placed 0 (x .0)) (length s) in
-    record { bare = x .0; takes = x .1; places = p; holds = rw p (core-held s (x .0) (x .1)); kinds = rw p (core-kinds s (x .0) (x .1)); long = rw p (core-long s (x .0) (x .1)) }
+    record {
+      bare = x .0;
+      takes = x .1;
+      places = p;
+      holds = rw p (core-held s (x .0) (x .1));
+      kinds = rw p (core-kinds s (x .0) (x .1));
+      long = rw p
+          (core-long s (x .0) (x .1));
+    }

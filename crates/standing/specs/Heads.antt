@@ -15,13 +15,14 @@ use Rattle.meaning.specs.Forest.{Forest, nil, tree, _⊕_, clean}
 use Rattle.meaning.specs.Walk.{Part, absent, node, part, place, endianness}
 use Rattle.grammar.specs.Bounds.{Held}
 use Rattle.reading.specs.Matched.{whole}
-use Rattle.standing.specs.Plain.{Out, missed, took, shift, seqE, plain}
-use Rattle.standing.specs.Nested.{skip}
-use Rattle.standing.specs.Skip.{contra}
-use Rattle.standing.specs.Ahead.{Took}
-use Rattle.standing.specs.Append.{body, core, hd, core-hd, took-part}
-use Rattle.standing.specs.Likeness.{placed}
-use Rattle.standing.specs.Spelling.{names, names-join, names-placed, every, Passes, passes, starting, rules, rules-clean}
+use Rattle.text.specs.ChoiceLaws.{never}
+use Rattle.locality.specs.Plain.{Out, missed, took, shift, seqE, plain, Took}
+use Rattle.locality.specs.PlainLaws.{took-part}
+use Rattle.locality.specs.Likeness.{placed}
+use Rattle.standing.specs.NestedGrammar.{skip}
+use Rattle.standing.specs.Sources.{body, core, hd, core-hd}
+use Rattle.standing.specs.Names.{names, names-⊕, names-placed, every, Passes, passes}
+use Rattle.standing.specs.Kinds.{starting, rules, rules-clean}
 use Rattle.standing.specs.Files.{Whole, eoi, to-core}
 use Rattle.standing.specs.Places.{place-before}
 use Rattle.standing.specs.MovedParts.{Grove, bare, grown}
@@ -33,7 +34,7 @@ abbrev here : Rule
 here = Rule.endianness-declaration
 
 starting-++ : (x y : List Rule) → starting here x ≡ true → starting here (x ++ y) ≡ true
-starting-++ [] y h = contra h
+starting-++ [] y h = never h
 starting-++ (r ∷ x) y h = h
 
 hd-first : every hd (starting here) ≡ true
@@ -48,7 +49,7 @@ core-first s F m e = go (plain hd s) (passes hd (starting here) hd-first s) (sym
     go missed p q = absurd (subst Took (sym q) tt)
     go (took n f) p q =
         let x = took-part n m f F (plain body (drop n s)) q in
-        ap (starting here) (ap names (x .1 .1 .1) ∙ names-join f (shift n (x .0))) ∙ starting-++ (names f) (names (shift n (x .0))) p
+        ap (starting here) (ap names (x .1 .1 .1) ∙ names-⊕ f (shift n (x .0))) ∙ starting-++ (names f) (names (shift n (x .0))) p
 
 pub line-first : {s : List ℕ} {w : Forest} → Whole s w → starting here (rules (clean w)) ≡ true
 line-first {s} {w} h =
@@ -62,7 +63,7 @@ pub record Same (p q : Part) : Type 0 where
   pub len : p .len ≡ q .len
 
 part-⊕ : (v w : Forest) → starting here (rules v) ≡ true → Same (part here (v ⊕ w)) (part here v)
-part-⊕ nil w h = contra h
+part-⊕ nil w h = never h
 part-⊕ (tree q s l k more) w h = rw h (record { start = refl; len = refl })
 
 part-end : (e : ℕ) (w : Forest) → Held 0 e w → part here w .start + part here w .len ≤ e

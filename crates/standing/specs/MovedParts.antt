@@ -15,8 +15,8 @@ use Rattle.meaning.specs.Convert.{convert, reasonOf, valueOf}
 use Rattle.meaning.specs.Tables.{Item, int}
 use Rattle.meaning.specs.Walk.{Part, absent, node, part, orPart, following, each, place, name, unquoted, value, optional, number}
 use Rattle.grammar.specs.Bounds.{Held}
-use Rattle.standing.specs.Joined.{movedBy}
 use Rattle.meaning.specs.Moving.{Move, unless-none}
+use Rattle.standing.specs.Joinings.{movedBy}
 use Rattle.standing.specs.MovedItems.{moved-items, Carries, carries-none, carries-++}
 use Rattle.standing.specs.MovedRows.{moved-place, Place, place-of, Name, named, name-of, Number, number-of}
 

@@ -7,21 +7,22 @@ use native.Mathlib.Omega.{arith}
 use lib.ListN.{length, length-append}
 use Rattle.meaning.specs.Utf8.{valid}
 use Rattle.meaning.specs.Forest.{Forest, nil, tree, _⊕_, clean}
+use Rattle.grammar.specs.Nodes.{nil-right}
 use Rattle.grammar.specs.Bounds.{Held}
-use Rattle.standing.specs.Plain.{took, shift, join, after, plain}
-use Rattle.standing.specs.Far.{size}
-use Rattle.standing.specs.Append.{body, core, join-leaf, took-part, file-append}
-use Rattle.standing.specs.Likeness.{placed, placed-join, placed-shift}
-use Rattle.standing.specs.Nested.{skip}
-use Rattle.standing.specs.Kinds.{Kinded, Long}
-use Rattle.standing.specs.Spelling.{every, Kindly, sorted, kinded}
-use Rattle.standing.specs.Longs.{Longs, longs, long-placed}
-use Rattle.standing.specs.Least.{least}
-use Rattle.standing.specs.Nodes.{allowed, Holds}
+use Rattle.locality.specs.Plain.{took, shift, after, plain, size}
+use Rattle.locality.specs.Holding.{allowed}
+use Rattle.locality.specs.Least.{least}
+use Rattle.locality.specs.PlainLaws.{took-part}
+use Rattle.locality.specs.Likeness.{placed, placed-⊕, placed-shift}
 use Rattle.grammar.specs.Bounds.{wider}
-use Rattle.standing.specs.Insides.{Inside, inside}
+use Rattle.locality.specs.Insides.{inside}
+use Rattle.locality.specs.ValidTexts.{valid-behind, valid-line}
+use Rattle.standing.specs.NestedGrammar.{skip}
+use Rattle.standing.specs.Sources.{body, core, file-append}
+use Rattle.standing.specs.Names.{every}
+use Rattle.standing.specs.Kinds.{Kinded, kinds-of}
+use Rattle.standing.specs.CommentLengths.{Long, longs}
 use Rattle.standing.specs.Files.{Whole, Core, to-whole, to-core}
-use Rattle.standing.specs.Valid.{valid-behind, valid-line}
 
 -- nodes k bytes later in the source
 abbrev pub movedBy : ℕ → Forest → Forest
@@ -50,7 +51,7 @@ body-nil = refl
 pub head-whole : {p : List ℕ} {F : Forest} → Head p F → Whole p (placed 0 F)
 head-whole {p} {F} h =
     to-whole (h .good)
-    (ap (plain core) (sym (append-nil p)) ∙ h .takes [] ∙ ap (after (length p) F) body-nil ∙ ap₂ took here (join-leaf F)) refl
+    (ap (plain core) (sym (append-nil p)) ∙ h .takes [] ∙ ap (after (length p) F) body-nil ∙ ap₂ took here (nil-right F)) refl
   where
     here : length p + 0 ≡ length p
     here = omega arith
@@ -69,33 +70,36 @@ pub record Stands (p q b : List ℕ) (k : ℕ) (old w v : Forest) : Type 0 where
 
 body-kinds : (u : List ℕ) (b : Forest) (o n : ℕ) → plain body u ≡ took n b → Kinded (clean (placed o b))
 unfolding allowed every skip
-body-kinds u b o n e = kinded o b (subst (Holds Kindly) e (sorted body refl u))
+body-kinds u b o n e = kinds-of body refl u n b e o
 
 body-long : (u : List ℕ) (b : Forest) (o n : ℕ) → plain body u ≡ took n b → Long (placed o b)
 unfolding allowed least skip
-body-long u b o n e = long-placed o b (subst (Holds Longs) e (longs body refl u))
+body-long u b o n e = longs body refl u n b e o
 
-stands : (p q b : List ℕ) {k : ℕ} {F w v : Forest} → Head p F → length p + k ≡ length q + 1 → valid q ≡ length q → valid (p ++ b) ≡ length (p ++ b) → Core q w → Core (p ++ b) v
+stands : (p q b : List ℕ) {k : ℕ} {F w v : Forest} → Head p F → length p + k ≡ length q + 1 → valid q ≡ length q → valid (p ++ b) ≡ length (p ++ b)
+    → Core q w → Core (p ++ b) v
     → Stands p q b k (placed 0 F) w v
 stands p q b {k} {F} {w} {v} h n vq vb cq cb =
     let x = took-part (length p) (length (p ++ b)) F (cb .bare) (plain body b) (sym (h .takes b) ∙ cb .takes) in
     let g = x .0 in
     let d : size (plain body b) ≡ length b = omega (arith, x .1 .1 .0, length-append p b) in
-    let takes : plain core (q ++ 10 ∷ b) ≡ took (length (q ++ 10 ∷ b)) (join (cq .bare) (shift (suc (length q)) g)) =
+    let takes : plain core (q ++ 10 ∷ b) ≡ took (length (q ++ 10 ∷ b)) (cq .bare ⊕ shift (suc (length q)) g) =
     file-append q b (cq .bare) (cq .takes) ∙ ap (after (suc (length q)) (cq .bare)) (x .1 .0)
-    ∙ ap (λ i. took i (join (cq .bare) (shift (suc (length q)) g))) (omega (arith, length-append q (10 ∷ b), d)) in
+    ∙ ap (λ i. took i (cq .bare ⊕ shift (suc (length q)) g)) (omega (arith, length-append q (10 ∷ b), d)) in
     let at-new : Held (length p) (length p + length b) (placed (length p) g)
-    = subst (λ i. Held (length p) (length p + i) (placed (length p) g)) d (subst (Holds Inside) (x .1 .0) (inside body b) (length p)) in
+    = subst (λ i. Held (length p) (length p + i) (placed (length p) g)) d (inside body b (size (plain body b)) g (x .1 .0) (length p)) in
     let m : 0 + suc (length q) ≡ length p + k = omega arith in
-    let here : placed 0 (join (cq .bare) (shift (suc (length q)) g)) ≡ w ⊕ movedBy k (placed (length p) g) =
-    placed-join 0 (cq .bare) (shift (suc (length q)) g)
+    let here : placed 0 (cq .bare ⊕ shift (suc (length q)) g) ≡ w ⊕ movedBy k (placed (length p) g) =
+    placed-⊕ 0 (cq .bare) (shift (suc (length q)) g)
     ∙ ap₂ (λ (y z : Forest). y ⊕ z) (sym (cq .places)) (placed-shift 0 (suc (length q)) g ∙ ap (λ i. placed i g) m ∙ placed-moved (length p) k g) in
     record {
       new = placed (length p) g;
       follows = record {
-        is = cb .places ∙ ap (placed 0) (x .1 .1 .1) ∙ placed-join 0 F (shift (length p) g)
+        is = cb .places ∙ ap (placed 0) (x .1 .1 .1) ∙ placed-⊕ 0 F (shift (length p) g)
             ∙ ap (λ (y : Forest). placed 0 F ⊕ y) (placed-shift 0 (length p) g ∙ ap (λ i. placed i g) (omega arith));
-        holds = wider (length p) (length p + length b) (length p) (length (p ++ b)) (placed (length p) g) (omega arith) (omega (arith, length-append p b)) at-new;
+        holds =
+            wider (length p) (length p + length b) (length p) (length (p ++ b)) (placed (length p) g) (omega arith)
+            (omega (arith, length-append p b)) at-new;
         kinds = body-kinds b g (length p) (size (plain body b)) (x .1 .0);
         long = body-long b g (length p) (size (plain body b)) (x .1 .0);
       };
@@ -103,7 +107,8 @@ stands p q b {k} {F} {w} {v} h n vq vb cq cb =
     }
 
 -- THE THEOREM, of nodes: q, a newline and b is whole, with the nodes of q and then those that b had behind p
-pub standing : (p q b : List ℕ) {k : ℕ} {F w v : Forest} → Head p F → length p + k ≡ length q + 1 → Whole q w → Whole (p ++ b) v → Stands p q b k (placed 0 F) w v
+pub standing : (p q b : List ℕ) {k : ℕ} {F w v : Forest} → Head p F → length p + k ≡ length q + 1 → Whole q w → Whole (p ++ b) v
+    → Stands p q b k (placed 0 F) w v
 standing p q b h n x y = stands p q b h n (x .good) (y .good) (to-core x) (to-core y)
 
 -- a source that p begins: the nodes of p, and those behind it

@@ -1,0 +1,17 @@
+pub mod Booleans
+pub mod Plain
+pub mod Holding
+pub mod Least
+pub mod PlainLaws
+pub mod Looks
+pub mod Stars
+pub mod Absorbing
+pub mod Firsts
+pub mod Literals
+pub mod Failures
+pub mod Brackets
+pub mod Likeness
+pub mod OwnBytes
+pub mod Insides
+pub mod ValidTexts
+pub mod Closings

@@ -1,0 +1,1 @@
+// Laws about any expression of the grammar: they stand in specs/.

@@ -1,0 +1,140 @@
+-- Blanks: a run of them is never missed, and stands at once: where it ended, none is left, and it looks no further than a run from
+-- there.
+use mathlib.Core.Path.{_≡_, refl}
+use mathlib.Core.List.{List, [], _∷_}
+use Prim.Native.Nat.{ℕ, zero, suc, _≤_}
+use native.Mathlib.Omega.{arith}
+use lib.ListN.{drop}
+use Rattle.meaning.specs.Rules.{Rule}
+use Rattle.meaning.specs.Peg.{Peg, lit, any, neg, seq, alt, star}
+use Rattle.meaning.specs.Forest.{Forest, nil}
+use Rattle.locality.specs.Plain.{Out, missed, took, plain, Took, Holds}
+use Rattle.locality.specs.Holding.{holds-map}
+use Rattle.locality.specs.Least.{least}
+use Rattle.locality.specs.PlainLaws.{seq-took, star-is}
+use Rattle.locality.specs.Looks.{litF, seqF, starSF, far, seqF-ge, altF-ge, star-unfold}
+use Rattle.locality.specs.Stars.{Still, seq-ends, still-star, star-ge, star-ends}
+use Rattle.locality.specs.Absorbing.{Absorbs, Bound, one, abs-up, abs-nil, far-seq, far-alt, far-rule, abs-star, far-star, lost-le, abs-const, one-le, le-one, abs-one, seq-ge}
+use Rattle.locality.specs.Literals.{byte, far-bytes, abs-lit, far-lit, lost-lit, far-text, to-le, lit-pos}
+use Rattle.standing.specs.NestedGrammar.{ws, block, line, comment, skip}
+
+pub far-block : {e : List ℕ → ℕ} → Absorbs (far block) block e
+far-block = far-seq (far-lit _) abs-nil (far-seq (far-text (42 ∷ 47 ∷ []) (omega arith)) (abs-lit _ (to-le (42 ∷ 47 ∷ []))) (far-lit _))
+
+far-line : Absorbs (far line) line one
+far-line = far-seq (far-lit _) abs-nil (abs-up (λ s. omega (arith, to-le (10 ∷ []) s, le-one s)) (far-text (10 ∷ []) (omega arith)))
+
+pub far-comment : Absorbs (far comment) comment one
+far-comment = far-rule Rule.COMMENT (far-alt far-block (lost-lit (47 ∷ 42 ∷ []) (47 ∷ 47 ∷ []) _ _ refl) far-line)
+
+pub far-ws : Absorbs (far (star ws)) (star ws) one
+unfolding byte least
+far-ws = far-bytes ws refl refl
+
+unfoldable pub turn : Peg
+turn = seq comment (star ws)
+
+pub far-turn : Absorbs (far turn) turn one
+unfolding turn
+far-turn = far-seq far-comment (abs-star abs-one (λ s. omega arith)) far-ws
+
+pub skip-took : (s : List ℕ) → Took (plain skip s)
+unfolding plain skip
+skip-took s =
+    seq-took (plain (star ws) s) (λ n. plain (star (seq comment (star ws))) (drop n s)) (star-is ws s)
+    (λ n. star-is (seq comment (star ws)) (drop n s))
+
+-- ---- where a run ends
+
+holds-unit : (o : Out) → Holds (λ n f. Unit {0}) o
+holds-unit missed = tt
+holds-unit (took n f) = tt
+
+ws-ends : (s : List ℕ) → Holds (λ n f. Still ws (drop n s)) (plain (star ws) s)
+ws-ends s = holds-map (plain (star ws) s) (λ n f x. x .1) (star-ends ws (λ t. Unit {0}) (λ t. holds-unit (plain ws t)) s tt)
+
+turn-ends : (s : List ℕ) → Holds (λ n f. Still ws (drop n s)) (plain turn s)
+unfolding turn
+turn-ends s = seq-ends comment (star ws) (λ t. Unit {0}) (Still ws) s (holds-unit (plain comment s)) (λ t i. ws-ends t)
+
+Done : List ℕ → Type 0
+Done s = Still ws s × Still turn s
+
+skip-ends : (s : List ℕ) → Holds (λ n f. Done (drop n s)) (plain skip s)
+unfolding skip turn Done
+skip-ends s = seq-ends (star ws) (star turn) (Still ws) Done s (ws-ends s) (λ t i. star-ends turn (Still ws) turn-ends t i)
+
+-- ---- a run of blanks, from its end
+
+done-took : (s : List ℕ) → Done s → plain skip s ≡ took 0 nil
+unfolding skip turn Done plain
+done-took s d = rw (still-star ws s (d .0), still-star turn s (d .1))
+
+done-far : (s : List ℕ) → Done s → far (star turn) s ≤ far skip s
+unfolding skip turn Done far
+done-far s d = rw (still-star ws s (d .0)) (omega arith)
+
+block-pos : (s : List ℕ) → 1 ≤ far block s
+unfolding far
+block-pos s =
+    omega (
+      arith,
+      lit-pos 47 (42 ∷ []) s,
+      seqF-ge (litF (47 ∷ 42 ∷ []) s) (plain (lit (47 ∷ 42 ∷ [])) s)
+          (λ n. far (seq (star (seq (neg (lit (42 ∷ 47 ∷ []))) any)) (lit (42 ∷ 47 ∷ []))) (drop n s)),
+    )
+
+comment-ge : (s : List ℕ) → far block s ≤ far comment s
+unfolding far
+comment-ge s = altF-ge (far block s) (plain block s) (far line s)
+
+turns-pos : (s : List ℕ) → 1 ≤ far (star turn) s
+unfolding turn
+turns-pos s = omega (arith, block-pos s, comment-ge s, seq-ge comment (star ws) s, star-ge turn s)
+
+ws-pos : (s : List ℕ) → 1 ≤ far ws s
+unfolding far
+ws-pos s =
+    omega (arith, lit-pos 32 [] s, altF-ge (litF (32 ∷ []) s) (plain (lit (32 ∷ [])) s) (far (alt (lit (10 ∷ [])) (alt (lit (13 ∷ [])) (lit (9 ∷ [])))) s))
+
+pub skip-pos : (s : List ℕ) → 1 ≤ far skip s
+unfolding skip
+skip-pos s = omega (arith, ws-pos s, star-ge ws s, seq-ge (star ws) (star (seq comment (star ws))) s)
+
+turns-step : Absorbs (far (star turn)) turn (far (star turn))
+turns-step = record { at = λ s. rw (star-unfold turn s .1) (go s (plain turn s) (far-turn .at s)) }
+  where
+    go : (s : List ℕ) (o : Out) → Bound o (far turn s) (λ n. one (drop n s))
+        → Bound o (starSF (far turn s) o (λ n. far (star turn) (drop n s))) (λ n. far (star turn) (drop n s))
+    go s missed i = tt
+    go s (took zero f) i = omega (arith, star-ge turn s)
+    go s (took (suc n) f) i = omega (arith, one-le (drop (suc n) s), turns-pos (drop (suc n) s))
+
+far-turns : Absorbs (far (star turn)) (star turn) (far (star turn))
+far-turns = far-star (abs-up (λ s. omega (arith, one-le s, turns-pos s)) far-turn) turns-step (λ s. omega (arith, lost-le turn s, star-ge turn s))
+
+far-skip₁ : Absorbs (far skip) skip (far (star turn))
+unfolding skip turn
+far-skip₁ = far-seq far-ws (abs-const 1 one-le turns-pos) far-turns
+
+-- what blanks and then q look at, from before a run of blanks and from after it
+pub look : (q : Peg) → Absorbs (far (seq skip q)) skip (far (seq skip q))
+unfolding far
+look q = record { at = λ s. go s (plain skip s) (far-skip₁ .at s) (skip-ends s) }
+  where
+    go : (s : List ℕ) (o : Out) → Bound o (far skip s) (λ n. far (star turn) (drop n s)) → Holds (λ n f. Done (drop n s)) o
+        → Bound o (seqF (far skip s) o (λ n. far q (drop n s))) (λ n. seqF (far skip (drop n s)) (plain skip (drop n s)) (λ m. far q (drop m (drop n s))))
+    go s missed i d = tt
+    go s (took n f) i d = rw (done-took (drop n s) d) (omega (arith, done-far (drop n s) d))
+
+pub far-skip : Absorbs (far skip) skip (far skip)
+far-skip = record { at = λ s. go s (plain skip s) (far-skip₁ .at s) (skip-ends s) }
+  where
+    go : (s : List ℕ) (o : Out) → Bound o (far skip s) (λ n. far (star turn) (drop n s)) → Holds (λ n f. Done (drop n s)) o
+        → Bound o (far skip s) (λ n. far skip (drop n s))
+    go s missed i d = tt
+    go s (took n f) i d = omega (arith, done-far (drop n s) d)
+
+-- after a run of blanks there is none
+pub skip-again : (s : List ℕ) (k : ℕ) (g : Forest) → plain skip s ≡ took k g → plain skip (drop k s) ≡ took 0 nil
+skip-again s k g e = done-took (drop k s) (rw e at (skip-ends s))
