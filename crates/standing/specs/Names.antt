@@ -35,8 +35,6 @@ names-placed o nil = refl
 names-placed o (tree r s l k more) = ap (λ (x : List Rule). pick (is Rule.COMMENT r) x (r ∷ x)) (names-placed o more)
 
 -- ---- a test that every match's names pass
-
--- ---- a test that every match's names pass
 abbrev empty : List Rule → Bool
 empty [] = true
 empty (r ∷ rs) = false
@@ -65,7 +63,7 @@ is-empty (r ∷ x) h = never h
 abbrev Passing : Peg → List ℕ → ℕ → Forest → Type 0
 Passing p s n f = (t : List Rule → Bool) → every p t ≡ true → t (names f) ≡ true
 
-names-two : (n : ℕ) (f g : Forest) → names (f ⊕ shift n g) ≡ names f ++ names g
+pub names-two : (n : ℕ) (f g : Forest) → names (f ⊕ shift n g) ≡ names f ++ names g
 names-two n f g = names-⊕ f (shift n g) ∙ ap (λ (x : List Rule). names f ++ x) (names-shift n g)
 
 law : Law Passing

@@ -1,0 +1,17 @@
+pub mod Placement
+pub mod Slots
+pub mod Between
+pub mod BetweenTags
+pub mod BetweenFields
+pub mod BetweenDeclarations
+pub mod Ascending
+pub mod Names
+pub mod Sample
+pub mod EveryRow
+pub mod Indices
+pub mod Notes
+pub mod FieldNodes
+pub mod FieldRows
+pub mod TableWords
+pub mod FedNumbers
+pub mod OwnRows
