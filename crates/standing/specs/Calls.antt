@@ -88,7 +88,8 @@ module _ (s u : List ℕ) {h : List ℕ} (l : KeywordLine h) (l₁ l₂ l₃ : L
         a .counts t,
         b .counts t,
         ap length (d .rows t),
-        length-append (rowsOf t (items s (whole s))) (moved-rows (appended s h (λ t. count t (items s (whole s)))) t (rowsOf t (items (h ++ u) (whole (h ++ u))))),
+        length-append (rowsOf t (items s (whole s))) (moved-rows (appended s h (λ t. count t (items s (whole s)))) t
+            (rowsOf t (items (h ++ u) (whole (h ++ u))))),
         rows-length (appended s h (λ t. count t (items s (whole s)))) t (rowsOf t (items (h ++ u) (whole (h ++ u)))),
       ) in
       let fits : Acceptable (s ++ 10 ∷ u) l₃ = record { source = r .accepts; tables = λ t. rw (r .items) (omega (arith, sum t, roomy t)) } in

@@ -87,7 +87,8 @@ sign-still s t o n h =
     let d : o ≤ length s = omega arith in
     let p = place-before s t o d in
     let q = place-before s t (o + n) h in
-    let x : take n (drop o (s ++ t)) ≡ take n (drop o s) = ap (take n) (drop-append-le o s t d) ∙ take-append-le n (drop o s) t (omega (arith, length-drop o s)) in
+    let x : take n (drop o (s ++ t)) ≡ take n (drop o s) = ap (take n) (drop-append-le o s t d)
+    ∙ take-append-le n (drop o s) t (omega (arith, length-drop o s)) in
     ap₂ (λ (y : List ℕ) (z : List ℕ). pick (prefixb (bytes "little_endian_packets") y) 1 2 ∷ z) x
     (ap₂ (λ (a b : SourceLocation). a .offset ∷ a .line ∷ a .column ∷ b .offset ∷ b .line ∷ b .column ∷ []) p q)
 
@@ -104,7 +105,8 @@ module _ {s : List ℕ} {w : Forest} (h : Whole s w) where
   line-inside = part-end (length s) (clean w) (held-of (grove-clean (grove-still 0 (length s) w (to-core h .holds))))
 
 -- what is added behind does not change the endianness nor its place
-pub endianness-stands : {s : List ℕ} (t : List ℕ) {w : Forest} (x : Forest) → Whole s w → Whole (s ++ t) (w ⊕ x) → endianness (s ++ t) (whole (s ++ t)) ≡ endianness s (whole s)
+pub endianness-stands : {s : List ℕ} (t : List ℕ) {w : Forest} (x : Forest) → Whole s w → Whole (s ++ t) (w ⊕ x)
+    → endianness (s ++ t) (whole (s ++ t)) ≡ endianness s (whole s)
 endianness-stands {s} t {w} x a b =
     let y = line-of a w (line-first a) x in
     endianness-is b ∙ ap₂ (sign (s ++ t)) (y .start) (y .len)

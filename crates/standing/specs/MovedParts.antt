@@ -51,7 +51,8 @@ module _ {a e k : ℕ} where
   twin-part r bare = gone bare
   twin-part r (grown {r = q} {s} {l} {kids} {kids′} {more} {more′} x y i j) = go (is r q)
     where
-      go : (b : Bool) → Twin a e k (pick b (node (s + k) l kids′ more′) (absent (tree q (s + k) l kids′ more′))) (pick b (node s l kids more) (absent (tree q s l kids more)))
+      go : (b : Bool) → Twin a e k (pick b (node (s + k) l kids′ more′) (absent (tree q (s + k) l kids′ more′)))
+          (pick b (node s l kids more) (absent (tree q s l kids more)))
       go true = here (peer x y i j)
       go false = gone (grown x y i j)
 

@@ -90,11 +90,13 @@ module _ {m : Move} where
       → Number na′ na → Number nb′ nb → First m Table.constraints f′ n′ f n → Condition m i′ i
       → Carries m (row Table.fields (field-words k′ p′ a′ b′ c′ na′ nb′ f′ n′ i′) ∷ []) (row Table.fields (field-words k p a b c na nb f n i) ∷ [])
   unfolding moved-items moved-row
-  field-moved (stays k) (placed p q) (named ao al) (named bo bl) (named co cl) (numbered fa na) (numbered fb nb) (first f n) (conditional i) = record { is = refl }
+  field-moved (stays k) (placed p q) (named ao al) (named bo bl) (named co cl) (numbered fa na) (numbered fb nb) (first f n)
+      (conditional i) = record { is = refl }
 
   pub declaration-moved : (k : ℕ) {f f′ n n′ cf cf′ cn cn′ : ℕ} {p p′ i i′ o o′ w w′ : List ℕ} → Place m p′ p → Name m i′ i → Name m o′ o → Number w′ w
       → First m (members k) f′ n′ f n → First m Table.constraints cf′ cn′ cf cn
-      → Carries m (row Table.declarations (declaration-words k p′ i′ o′ w′ f′ n′ cf′ cn′) ∷ []) (row Table.declarations (declaration-words k p i o w f n cf cn) ∷ [])
+      → Carries m (row Table.declarations (declaration-words k p′ i′ o′ w′ f′ n′ cf′ cn′) ∷ [])
+      (row Table.declarations (declaration-words k p i o w f n cf cn) ∷ [])
   unfolding moved-items moved-row
   declaration-moved k (placed p q) (named io il) (named oo ol) (numbered wf w) (first f n) (first cf cn) = record { is = refl }
 
