@@ -207,3 +207,8 @@ lost-in P q Q d s = omega (arith, lost-le q s, bare q d s, member P q Q s)
 
 pub lost-skip-in : (P : List Peg) (q : Peg) (Q : List Peg) (s : List ℕ) → lost (seq skip q) s ≤ ahead (P ++ q ∷ Q) s
 lost-skip-in P q Q s = omega (arith, lost-le (seq skip q) s, member P q Q s)
+
+-- c? where c starts with no blank
+pub may : (Q R : List Peg) {c : Peg} → check Q c ≡ true → Dull c → ((s : List ℕ) → ahead Q s ≤ ahead R s) → Absorbs (far c) c (ahead (c ∷ R))
+    → Tail Q (opt c) (ahead (c ∷ R))
+may Q R {c} k d l f = opt-last Q (c ∷ R) k f (λ s. omega (arith, l s, wide (c ∷ []) R s)) (lost-in [] c R d)
