@@ -9,7 +9,9 @@ use borrow.Author.Tests.{eqb-false, ne-eqb, not-true}
 use lib.Dec.{eqb}
 use lib.ListN.{drop}
 use Rattle.meaning.specs.Choice.{both}
-use Rattle.meaning.specs.Peg.{Peg, lit, seq, star, opt}
+use Rattle.meaning.specs.Quoted.{bytes}
+use Rattle.meaning.specs.Peg.{Peg, seq, star, opt}
+use Rattle.meaning.specs.Pdl.{text}
 use Rattle.text.specs.ChoiceLaws.{both-is}
 use Rattle.locality.specs.Plain.{Out, missed, took, plain, Took, Holds}
 use Rattle.locality.specs.Least.{nullable, least}
@@ -18,7 +20,7 @@ use Rattle.locality.specs.Absorbing.{Absorbs, lost, more, abs-le, abs-up, abs-m
 use Rattle.locality.specs.Firsts.{Span, firsts, offs, offs-sound, calm, calm-append, abs-first, abs-first₂, near, idle}
 use Rattle.locality.specs.Literals.{byte, byte-far, far-lit}
 use Rattle.locality.specs.Failures.{part, lost-star}
-use Rattle.standing.specs.NestedGrammar.{skip}
+use Rattle.standing.specs.NestedGrammar.{skip, _~_}
 use Rattle.standing.specs.Blanks.{look, far-skip, skip-pos, skip-took}
 
 unfoldable pub ahead : List Peg → List ℕ → ℕ
@@ -133,21 +135,21 @@ unskip q p c a =
 -- ---- item ("," item)* ","?
 
 abbrev pub comma : Peg
-comma = lit (44 ∷ [])
+comma = text ","
 
 abbrev pub step : Peg → Peg
-step item = seq comma (seq skip item)
+step item = comma ~ item
 
 abbrev pub steps : Peg → Peg
 steps item = seq (step item) (star (seq skip (step item)))
 
 abbrev pub listOf : Peg → Peg
-listOf item = seq item (seq skip (seq (opt (steps item)) (seq skip (opt comma))))
+listOf item = item ~ opt (steps item) ~ opt comma
 
 module _ (item : Peg) (Q : List Peg) (fi : Absorbs (far item) item (ahead Q)) (kc : check Q comma ≡ true) (ki : check [] item ≡ true) where
   far-step : Absorbs (far (step item)) (step item) (ahead (step item ∷ Q))
   unfolding ahead
-  far-step = abs-up (λ s. omega arith) (then (far-lit (44 ∷ [])) (solid [] ki fi))
+  far-step = abs-up (λ s. omega arith) (then (far-lit (bytes ",")) (solid [] ki fi))
 
   far-next : Absorbs (far (seq skip (step item))) (seq skip (step item)) (ahead (step item ∷ Q))
   unfolding check
@@ -171,13 +173,13 @@ module _ (item : Peg) (Q : List Peg) (fi : Absorbs (far item) item (ahead Q)) (k
 
   comma-settles : Absorbs (ahead (step item ∷ Q)) comma (ahead (item ∷ step item ∷ Q))
   unfolding check ahead more
-  comma-settles = abs-more (unskip (step item) comma refl (part (seq skip item) (far-lit (44 ∷ [])) (λ s. omega arith))) (first Q comma kc)
+  comma-settles = abs-more (unskip (step item) comma refl (part (seq skip item) (far-lit (bytes ",")) (λ s. omega arith))) (first Q comma kc)
 
   comma-tail : Tail (step item ∷ Q) (opt comma) (ahead (item ∷ step item ∷ Q))
   unfolding ahead byte
   comma-tail = record {
     settles = abs-opt comma-settles (λ s. omega arith);
-    bounded = far-opt (far-lit (44 ∷ [])) (λ s. omega (arith, lost-le comma s, byte-far comma s refl, ahead-pos Q s));
+    bounded = far-opt (far-lit (bytes ",")) (λ s. omega (arith, lost-le comma s, byte-far comma s refl, ahead-pos Q s));
   }
 
   pub far-list : Absorbs (far (listOf item)) (listOf item) (ahead (item ∷ step item ∷ Q))
