@@ -17,7 +17,7 @@ wider a b c d (tree r s l k more) p q h =
     let y : s + l ≤ b = h .1 .0 in
     (omega arith, (omega arith, (wider a b c d k p q (h .1 .1 .0), wider a b c d more p q (h .1 .1 .1))))
 
-pub held-⊕ : (a b : ℕ) (v w : Forest) → Held a b v → Held a b w → Held a b (v ⊕ w)
+held-⊕ : (a b : ℕ) (v w : Forest) → Held a b v → Held a b w → Held a b (v ⊕ w)
 held-⊕ a b nil w h k = k
 held-⊕ a b (tree r s l kids more) w h k = (h .0, (h .1 .0, (h .1 .1 .0, held-⊕ a b more w (h .1 .1 .1) k)))
 

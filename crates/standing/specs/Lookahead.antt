@@ -56,7 +56,7 @@ pub first : {e : List ℕ → ℕ} (Q : List Peg) (b : Peg) → check Q b ≡ tr
 unfolding check
 first Q b c = let i = both-is (offs (spans Q) (firsts b)) (not (nullable b)) c in abs-first (spans Q) b (ahead-near Q) (i .0) (not-true (nullable b) (i .1))
 
-pub looks : (Q : List Peg) → Absorbs (ahead Q) skip (ahead Q)
+looks : (Q : List Peg) → Absorbs (ahead Q) skip (ahead Q)
 unfolding ahead more
 looks [] = far-skip
 looks (q ∷ Q) = abs-more (abs-up (λ s. omega arith) (look q)) (abs-up (λ s. omega arith) (looks Q))
@@ -90,7 +90,7 @@ pub then : {Q : List Peg} {a b : Peg} {e : List ℕ → ℕ} → Absorbs (far a)
 then f t = far-seq f (blanks t .settles) (blanks t .bounded)
 
 -- c? at the end
-pub opt-last : (Q R : List Peg) {c : Peg} → check Q c ≡ true → Absorbs (far c) c (ahead R) → ((s : List ℕ) → ahead Q s ≤ ahead R s)
+opt-last : (Q R : List Peg) {c : Peg} → check Q c ≡ true → Absorbs (far c) c (ahead R) → ((s : List ℕ) → ahead Q s ≤ ahead R s)
     → ((s : List ℕ) → lost c s ≤ ahead R s) → Tail Q (opt c) (ahead R)
 opt-last Q R {c} k f l m = record { settles = abs-opt (first Q c k) l; bounded = far-opt f m }
 
@@ -122,7 +122,7 @@ abbrev pub Dull : Peg → Type 0
 Dull q = offs (firsts skip) (firsts q) ≡ true
 
 -- blanks and then q, where p takes and starts with no blank, is q
-pub unskip : {e : List ℕ → ℕ} (q p : Peg) → check [] p ≡ true → Absorbs (far q) p e → Absorbs (far (seq skip q)) p e
+unskip : {e : List ℕ → ℕ} (q p : Peg) → check [] p ≡ true → Absorbs (far q) p e → Absorbs (far (seq skip q)) p e
 unfolding check far
 unskip q p c a =
     let i = both-is (offs (firsts skip) (firsts p)) (not (nullable p)) c in
@@ -195,7 +195,7 @@ unfolding ahead
 wide [] Q s = omega arith
 wide (p ∷ P) Q s = omega (arith, wide P Q s)
 
-pub member : (P : List Peg) (q : Peg) (Q : List Peg) (s : List ℕ) → far (seq skip q) s ≤ ahead (P ++ q ∷ Q) s
+member : (P : List Peg) (q : Peg) (Q : List Peg) (s : List ℕ) → far (seq skip q) s ≤ ahead (P ++ q ∷ Q) s
 unfolding ahead
 member [] q Q s = omega arith
 member (p ∷ P) q Q s = omega (arith, member P q Q s)
