@@ -1,10 +1,10 @@
 -- Every node of a plain match, placed in the source, lies inside what the match takes.
 use mathlib.Core.Path.{_≡_}
 use mathlib.Core.List.{List}
-use Prim.Native.Nat.{ℕ, suc, _+_, _≤_}
+use Prim.Native.Nat.{ℕ, suc, _+_}
 use native.Mathlib.Omega.{arith}
 use Rattle.meaning.specs.Peg.{Peg}
-use Rattle.meaning.specs.Forest.{Forest, nil, tree, _⊕_}
+use Rattle.meaning.specs.Forest.{Forest, _⊕_}
 use Rattle.grammar.specs.Bounds.{Held, wider, held-⊕}
 use Rattle.locality.specs.Plain.{took, shift, plain}
 use Rattle.locality.specs.Holding.{Law, taken}

@@ -1,4 +1,3 @@
-pub mod Booleans
 pub mod Plain
 pub mod Holding
 pub mod Least

@@ -63,7 +63,7 @@ byte-far (star p) s e = never e
 byte-far (opt p) s e = byte-far p s e
 byte-far (rule r p) s e = byte-far p s e
 
-pub abs-some : {h e : List ℕ → ℕ} {p : Peg} → nullable p ≡ false → ((s : List ℕ) → h s ≤ 1) → Absorbs h p e
+abs-some : {h e : List ℕ → ℕ} {p : Peg} → nullable p ≡ false → ((s : List ℕ) → h s ≤ 1) → Absorbs h p e
 abs-some {h} {e} {p} v a = record { at = λ s. go s (plain p s) (some p s v) }
   where
     go : (s : List ℕ) (o : Out) → AtLeast 1 o → Bound o (h s) (λ n. e (drop n s))
@@ -135,7 +135,7 @@ differ-far (c ∷ l) (d ∷ m) (x ∷ s) e q = go (eqb c x) refl (differ-far l m
     go true p ih = let i = ih (not-or (eqb c d) (differ l m) (same p) e) (same-head .1) in (omega (arith, i .0), i .1)
     go false p ih = (omega arith, refl)
 
-pub lost-lit₁ : (l m : List ℕ) (a : Peg) → differ l m ≡ true → Absorbs (lost (seq (lit l) a)) (lit m) nought
+lost-lit₁ : (l m : List ℕ) (a : Peg) → differ l m ≡ true → Absorbs (lost (seq (lit l) a)) (lit m) nought
 unfolding plain far lost nought
 lost-lit₁ l m a d = record { at = λ s. go s (prefixb m s) refl }
   where

@@ -1,7 +1,7 @@
 -- Laws of plain outcomes: nodes moved and put side by side, one outcome behind another, and what is never missed.
 use mathlib.Core.Path.{_≡_, refl, sym, ap, ap₂, _∙_, subst}
 use mathlib.Core.List.{List}
-use Prim.Native.Nat.{ℕ, zero, suc, _+_, _≤_}
+use Prim.Native.Nat.{ℕ, zero, suc, _+_}
 use native.Mathlib.Omega.{arith}
 use lib.ListN.{length, drop}
 use lib.Seq.{drop-drop}
@@ -14,7 +14,7 @@ pub shift-⊕ : (k : ℕ) (f g : Forest) → shift k (f ⊕ g) ≡ shift k f ⊕
 shift-⊕ k nil g = refl
 shift-⊕ k (tree r s n c f) g = ap (tree r (k + s) n c) (shift-⊕ k f g)
 
-pub shift-shift : (a b : ℕ) (f : Forest) → shift a (shift b f) ≡ shift (a + b) f
+shift-shift : (a b : ℕ) (f : Forest) → shift a (shift b f) ≡ shift (a + b) f
 shift-shift a b nil = refl
 shift-shift a b (tree r s n c f) = ap₂ (λ (x : ℕ) (y : Forest). tree r x n c y) (omega arith) (shift-shift a b f)
 
@@ -39,10 +39,6 @@ cont (took n f) r = after n f r
 pub after-cont : (n : ℕ) (f : Forest) (o r : Out) → after n f (cont o r) ≡ cont (after n f o) r
 after-cont n f missed r = refl
 after-cont n f (took m g) r = after-after n m f g r
-
-pub size-after : (n : ℕ) (f : Forest) (o : Out) → size (after n f o) ≤ n + size o
-size-after n f missed = omega arith
-size-after n f (took m g) = omega arith
 
 pub size-after-took : (n : ℕ) (f : Forest) (o : Out) → Took o → size (after n f o) ≡ n + size o
 size-after-took n f missed i = absurd i

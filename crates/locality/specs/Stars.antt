@@ -29,7 +29,7 @@ star-ge p s = rw (star-unfold p s .1) (starSF-ge (far p s) (plain p s) (λ n. fa
 
 -- ---- where a match ends
 
-pub holds-after : (o : Out) (n : ℕ) (f : Forest) (P : List ℕ → Type 0) (s : List ℕ) → Holds (λ m g. P (drop m (drop n s))) o
+holds-after : (o : Out) (n : ℕ) (f : Forest) (P : List ℕ → Type 0) (s : List ℕ) → Holds (λ m g. P (drop m (drop n s))) o
     → Holds (λ m g. P (drop m s)) (after n f o)
 holds-after missed n f P s h = tt
 holds-after (took m g) n f P s h = rw drop-drop at h

@@ -1,7 +1,7 @@
 -- The grammar's notes on fields: a list of fields has fields only, a field has a child, which describes it, and descriptions of seven
 -- rules have the integer that the walk takes for number a. So feeding takes no description for damaged.
 use Prim.Native.Nat.{ℕ}
-use mathlib.Core.Path.{_≡_, refl, ap, subst, _∙_}
+use mathlib.Core.Path.{_≡_, refl, ap, _∙_}
 use mathlib.Core.Bool.{Bool, true, false}
 use mathlib.Core.List.{List, [], _∷_}
 use lib.ListN.{length}
@@ -9,7 +9,7 @@ use Rattle.meaning.specs.Choice.{pick}
 use Rattle.meaning.specs.Rules.{Rule, is}
 use Rattle.meaning.specs.Forest.{Forest, nil, tree, clean}
 use Rattle.meaning.specs.Rows.{field-words}
-use Rattle.meaning.specs.Walk.{Part, absent, node, part, orPart, place, name, Desc, no, fixed, array, describe, described}
+use Rattle.meaning.specs.Walk.{Part, part, orPart, place, name, Desc, no, fixed, array, describe, described}
 use Rattle.meaning.specs.Feeding.{damaged}
 use Rattle.text.specs.ChoiceLaws.{never}
 use Rattle.sound_rows.specs.Notes.{Note, _has_, _lists_, Told, Noted, only, noted, noted-clean}

@@ -9,7 +9,7 @@ use lib.Dec.{eqb}
 use lib.ListN.{getD}
 use Rattle.meaning.specs.Choice.{pick}
 use Rattle.meaning.specs.Quoted.{bytes}
-use Rattle.meaning.specs.Rules.{Rule, is}
+use Rattle.meaning.specs.Rules.{Rule}
 use Rattle.meaning.specs.Forest.{Forest, nil, tree, clean}
 use Rattle.meaning.specs.Tables.{Table, Item, rowsOf, count, firstOf}
 use Rattle.meaning.specs.Rows.{row-kind, declaration-first, declaration-count, declaration-first-constraint, declaration-constraint-count, declaration-words, field-first-constraint, field-constraint-count, field-condition}

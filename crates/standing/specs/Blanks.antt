@@ -1,13 +1,15 @@
 -- Blanks: a run of them is never missed, and stands at once: where it ended, none is left, and it looks no further than a run from
 -- there.
 use mathlib.Core.Path.{_≡_, refl}
-use mathlib.Core.List.{List, [], _∷_}
+use mathlib.Core.List.{List, []}
 use Prim.Native.Nat.{ℕ, zero, suc, _≤_}
 use native.Mathlib.Omega.{arith}
 use lib.ListN.{drop}
+use Rattle.meaning.specs.Quoted.{bytes}
 use Rattle.meaning.specs.Rules.{Rule}
-use Rattle.meaning.specs.Peg.{Peg, lit, any, neg, seq, alt, star}
+use Rattle.meaning.specs.Peg.{Peg, any, neg, seq, alt, star}
 use Rattle.meaning.specs.Forest.{Forest, nil}
+use Rattle.meaning.specs.Pdl.{text}
 use Rattle.locality.specs.Plain.{Out, missed, took, plain, Took, Holds}
 use Rattle.locality.specs.Holding.{holds-map}
 use Rattle.locality.specs.Least.{least}
@@ -19,13 +21,13 @@ use Rattle.locality.specs.Literals.{byte, far-bytes, abs-lit, far-lit, lost-lit
 use Rattle.standing.specs.NestedGrammar.{ws, block, line, comment, skip}
 
 pub far-block : {e : List ℕ → ℕ} → Absorbs (far block) block e
-far-block = far-seq (far-lit _) abs-nil (far-seq (far-text (42 ∷ 47 ∷ []) (omega arith)) (abs-lit _ (to-le (42 ∷ 47 ∷ []))) (far-lit _))
+far-block = far-seq (far-lit _) abs-nil (far-seq (far-text (bytes "*/") (omega arith)) (abs-lit _ (to-le (bytes "*/"))) (far-lit _))
 
 far-line : Absorbs (far line) line one
-far-line = far-seq (far-lit _) abs-nil (abs-up (λ s. omega (arith, to-le (10 ∷ []) s, le-one s)) (far-text (10 ∷ []) (omega arith)))
+far-line = far-seq (far-lit _) abs-nil (abs-up (λ s. omega (arith, to-le (bytes "\n") s, le-one s)) (far-text (bytes "\n") (omega arith)))
 
 pub far-comment : Absorbs (far comment) comment one
-far-comment = far-rule Rule.COMMENT (far-alt far-block (lost-lit (47 ∷ 42 ∷ []) (47 ∷ 47 ∷ []) _ _ refl) far-line)
+far-comment = far-rule Rule.COMMENT (far-alt far-block (lost-lit (bytes "/*") (bytes "//") _ _ refl) far-line)
 
 pub far-ws : Absorbs (far (star ws)) (star ws) one
 unfolding byte least
@@ -79,9 +81,9 @@ unfolding far
 block-pos s =
     omega (
       arith,
-      lit-pos 47 (42 ∷ []) s,
-      seqF-ge (litF (47 ∷ 42 ∷ []) s) (plain (lit (47 ∷ 42 ∷ [])) s)
-          (λ n. far (seq (star (seq (neg (lit (42 ∷ 47 ∷ []))) any)) (lit (42 ∷ 47 ∷ []))) (drop n s)),
+      lit-pos 47 (bytes "*") s,
+      seqF-ge (litF (bytes "/*") s) (plain (text "/*") s)
+          (λ n. far (seq (star (seq (neg (text "*/")) any)) (text "*/")) (drop n s)),
     )
 
 comment-ge : (s : List ℕ) → far block s ≤ far comment s
@@ -95,7 +97,7 @@ turns-pos s = omega (arith, block-pos s, comment-ge s, seq-ge comment (star ws) 
 ws-pos : (s : List ℕ) → 1 ≤ far ws s
 unfolding far
 ws-pos s =
-    omega (arith, lit-pos 32 [] s, altF-ge (litF (32 ∷ []) s) (plain (lit (32 ∷ [])) s) (far (alt (lit (10 ∷ [])) (alt (lit (13 ∷ [])) (lit (9 ∷ [])))) s))
+    omega (arith, lit-pos 32 [] s, altF-ge (litF (bytes " ") s) (plain (text " ") s) (far (alt (text "\n") (alt (text "\r") (text "\t"))) s))
 
 pub skip-pos : (s : List ℕ) → 1 ≤ far skip s
 unfolding skip

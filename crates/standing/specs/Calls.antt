@@ -1,6 +1,6 @@
 -- Three calls of `read`, whose contract is an equation with `answer`: of an old source, of a keyword line with new declarations, and of
 -- the whole. What the third call left is told by what the two others left, word by word.
-use Prim.Native.Nat.{ℕ, zero, suc, _+_, _-_, _*_, _≤_}
+use Prim.Native.Nat.{ℕ, suc, _+_, _-_, _*_, _≤_}
 use native.Mathlib.Nat.{suc-mul}
 use native.Mathlib.Omega.{arith}
 use mathlib.Core.Path.{_≡_, refl, sym, ap, ap₂, _∙_, fun-ext}
@@ -17,8 +17,8 @@ use Rattle.reading.specs.Matched.{whole}
 use Rattle.reading.specs.Accepts.{reads}
 use Rattle.reading.specs.Promises.{Acceptable, rows, rows-sized, words, words-past, accepted-if, accepted-only}
 use Rattle.standing.specs.MovedItems.{rows-length}
-use Rattle.standing.specs.Accepting.{Read, read}
-use Rattle.standing.specs.Appending.{Appended, appending}
+use Rattle.standing.specs.Accepting.{read}
+use Rattle.standing.specs.Appending.{appending}
 
 -- ---- words that begin with these rows hold them
 rows-of-flat : (size : ℕ) (rs : List (List ℕ)) (ws : List ℕ) → Sized size rs → take (length rs * size) ws ≡ flat rs → rows-in size (length rs) ws ≡ rs

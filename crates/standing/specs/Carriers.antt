@@ -5,7 +5,7 @@ use native.Mathlib.Omega.{arith}
 use mathlib.Core.Path.{_≡_, refl, sym, ap, ap₂, _∙_, subst}
 use mathlib.Core.List.{List, [], _∷_, _++_}
 use lib.ListN.{length, getD, set, take, drop, length-drop}
-use lib.Seq.{drop-drop, drop-append-le, drop-append-seam, take-append-le}
+use lib.Seq.{drop-drop, drop-append-le, drop-append-seam, drop-append-add, take-append-le}
 use Rattle.meaning.specs.declared.SourceLocation.{SourceLocation}
 use Rattle.meaning.specs.Forest.{Forest, nil, tree}
 use Rattle.meaning.specs.Places.{at, placeAt}
@@ -100,16 +100,6 @@ standing-bytes s t = record {
         ∙ ap (λ (i : ℕ). at (p .offset + 0) (p .line + 0) i) (none (p .column))
 
 -- ---- what was added: the bytes b, behind p and behind q and a newline
-drop-line : (r u : List ℕ) → drop (length r + 1) (r ++ 10 ∷ u) ≡ u
-drop-line r u = ap (λ (i : ℕ). drop i (r ++ 10 ∷ u)) here ∙ go r
-  where
-    here : length r + 1 ≡ suc (length r)
-    here = omega arith
-
-    go : (r : List ℕ) → drop (suc (length r)) (r ++ 10 ∷ u) ≡ u
-    go [] = refl
-    go (x ∷ r) = go r
-
 -- how a text moves from behind p to behind q and a newline
 pub record Moves (p q : List ℕ) (m : Move) : Type 0 where
   pub bytes : length p + m .bytes ≡ length q + 1
@@ -132,5 +122,5 @@ added-bytes p q b m z h = record {
     dropped o x =
         let i : o + m .bytes ≡ length q + 1 + (o - length p) = omega (arith, h .bytes) in
         let j : o ≡ length p + (o - length p) = omega arith in
-        ap (λ (k : ℕ). drop k (q ++ 10 ∷ b)) i ∙ sym (drop-drop (o - length p) (length q + 1) (q ++ 10 ∷ b)) ∙ ap (drop (o - length p)) (drop-line q b)
+        ap (λ (k : ℕ). drop k (q ++ 10 ∷ b)) i ∙ sym (drop-drop (o - length p) (length q + 1) (q ++ 10 ∷ b)) ∙ ap (drop (o - length p)) (drop-append-add q (10 ∷ b) 1)
         ∙ sym (ap (λ (k : ℕ). drop k (p ++ b)) j ∙ sym (drop-drop (o - length p) (length p) (p ++ b)) ∙ ap (drop (o - length p)) (drop-append-seam p b))

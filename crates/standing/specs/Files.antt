@@ -8,9 +8,9 @@ use native.Mathlib.Omega.{arith}
 use lib.ListN.{length, drop}
 use Rattle.meaning.specs.Utf8.{valid}
 use Rattle.meaning.specs.Rules.{Rule}
-use Rattle.meaning.specs.Peg.{Peg, lit, end, seq, rule, hit}
+use Rattle.meaning.specs.Peg.{Peg, end, seq, rule, hit}
 use Rattle.meaning.specs.Forest.{Forest, nil, tree, _⊕_, clean, outcome, eval, Out as Full, missed as failed, took as held}
-use Rattle.meaning.specs.Pdl.{file, rules}
+use Rattle.meaning.specs.Pdl.{file, rules, text}
 use Rattle.grammar.specs.Bytewise.{file-joined}
 use Rattle.grammar.specs.Nodes.{⊕-assoc}
 use Rattle.grammar.specs.Bounds.{Held}
@@ -23,7 +23,7 @@ use Rattle.locality.specs.Likeness.{placed, placed-⊕, Like, steady, alike}
 use Rattle.grammar.specs.Bounds.{wider}
 use Rattle.locality.specs.Insides.{inside}
 use Rattle.locality.specs.Closings.{Final, end-final, seq-final}
-use Rattle.standing.specs.NestedGrammar.{skip, endianness}
+use Rattle.standing.specs.NestedGrammar.{skip, endianness, _~_}
 use Rattle.standing.specs.Sources.{ends, some-decls, tail, core}
 use Rattle.standing.specs.Names.{every}
 use Rattle.standing.specs.Kinds.{Kinded, kinds-of}
@@ -55,11 +55,11 @@ end-closed [] = refl
 end-closed (x ∷ s) = refl
 
 abbrev shut : Peg
-shut = seq (lit []) (seq skip (seq endianness (seq skip (seq some-decls (seq skip (rule Rule.EOI end))))))
+shut = text "" ~ endianness ~ some-decls ~ rule Rule.EOI end
 
 shut-is : (s : List ℕ) → plain shut s ≡ closed (plain core s)
 shut-is =
-    seq-closed (lit []) _ (seq skip (seq endianness tail)) (seq-closed skip _ (seq endianness tail)
+    seq-closed (text "") _ (seq skip (seq endianness tail)) (seq-closed skip _ (seq endianness tail)
     (seq-closed endianness _ tail (seq-closed skip _ (seq some-decls ends) (seq-closed some-decls _ ends (seq-closed skip _ end end-closed)))))
 
 -- ---- the grammar of Pdl.antt, by computation
@@ -75,7 +75,7 @@ file-is : (s : List ℕ) → plain file s ≡ ruleE Rule.file (closed (plain cor
 file-is s = respelt file (rule Rule.file shut) spelt s ∙ unfold plain in ap (ruleE Rule.file) (shut-is s)
 
 core-final : (s : List ℕ) → Final s (plain core s)
-core-final = seq-final (lit []) _ (seq-final skip _ (seq-final endianness _ (seq-final skip _ (seq-final some-decls _ (seq-final skip end end-final)))))
+core-final = seq-final (text "") _ (seq-final skip _ (seq-final endianness _ (seq-final skip _ (seq-final some-decls _ (seq-final skip end end-final)))))
 
 -- ---- the source and its nodes before the end; some mark
 pub record Whole (s : List ℕ) (w : Forest) : Type 0 where

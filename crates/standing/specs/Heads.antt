@@ -28,7 +28,8 @@ use Rattle.standing.specs.Places.{place-before}
 use Rattle.standing.specs.MovedParts.{Grove, bare, grown}
 use Rattle.standing.specs.MovedDeclarations.{grove-clean}
 use Rattle.standing.specs.Carriers.{grove-still}
-use Rattle.standing.specs.Told.{clean-⊕, nodes-are}
+use Rattle.grammar.specs.Nodes.{clean-⊕}
+use Rattle.standing.specs.Told.{nodes-are}
 
 abbrev here : Rule
 here = Rule.endianness-declaration

@@ -29,7 +29,7 @@ abbrev pub movedBy : ℕ → Forest → Forest
 movedBy k nil = nil
 movedBy k (tree r s l kids more) = tree r (s + k) l (movedBy k kids) (movedBy k more)
 
-pub placed-moved : (o k : ℕ) (f : Forest) → placed (o + k) f ≡ movedBy k (placed o f)
+placed-moved : (o k : ℕ) (f : Forest) → placed (o + k) f ≡ movedBy k (placed o f)
 placed-moved o k nil = refl
 placed-moved o k (tree r s l c more) =
     ap₂ (λ (x y : Forest). x ⊕ y) (ap (λ (i : ℕ). tree r i l (placed i c) nil) q ∙ ap (λ (x : Forest). tree r (o + s + k) l x nil) (placed-moved (o + s) k c))

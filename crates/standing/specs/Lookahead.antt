@@ -9,7 +9,9 @@ use borrow.Author.Tests.{eqb-false, ne-eqb, not-true}
 use lib.Dec.{eqb}
 use lib.ListN.{drop}
 use Rattle.meaning.specs.Choice.{both}
-use Rattle.meaning.specs.Peg.{Peg, lit, seq, star, opt}
+use Rattle.meaning.specs.Quoted.{bytes}
+use Rattle.meaning.specs.Peg.{Peg, seq, star, opt}
+use Rattle.meaning.specs.Pdl.{text}
 use Rattle.text.specs.ChoiceLaws.{both-is}
 use Rattle.locality.specs.Plain.{Out, missed, took, plain, Took, Holds}
 use Rattle.locality.specs.Least.{nullable, least}
@@ -18,7 +20,7 @@ use Rattle.locality.specs.Absorbing.{Absorbs, lost, more, abs-le, abs-up, abs-m
 use Rattle.locality.specs.Firsts.{Span, firsts, offs, offs-sound, calm, calm-append, abs-first, abs-first₂, near, idle}
 use Rattle.locality.specs.Literals.{byte, byte-far, far-lit}
 use Rattle.locality.specs.Failures.{part, lost-star}
-use Rattle.standing.specs.NestedGrammar.{skip}
+use Rattle.standing.specs.NestedGrammar.{skip, _~_}
 use Rattle.standing.specs.Blanks.{look, far-skip, skip-pos, skip-took}
 
 unfoldable pub ahead : List Peg → List ℕ → ℕ
@@ -54,7 +56,7 @@ pub first : {e : List ℕ → ℕ} (Q : List Peg) (b : Peg) → check Q b ≡ tr
 unfolding check
 first Q b c = let i = both-is (offs (spans Q) (firsts b)) (not (nullable b)) c in abs-first (spans Q) b (ahead-near Q) (i .0) (not-true (nullable b) (i .1))
 
-pub looks : (Q : List Peg) → Absorbs (ahead Q) skip (ahead Q)
+looks : (Q : List Peg) → Absorbs (ahead Q) skip (ahead Q)
 unfolding ahead more
 looks [] = far-skip
 looks (q ∷ Q) = abs-more (abs-up (λ s. omega arith) (look q)) (abs-up (λ s. omega arith) (looks Q))
@@ -88,7 +90,7 @@ pub then : {Q : List Peg} {a b : Peg} {e : List ℕ → ℕ} → Absorbs (far a)
 then f t = far-seq f (blanks t .settles) (blanks t .bounded)
 
 -- c? at the end
-pub opt-last : (Q R : List Peg) {c : Peg} → check Q c ≡ true → Absorbs (far c) c (ahead R) → ((s : List ℕ) → ahead Q s ≤ ahead R s)
+opt-last : (Q R : List Peg) {c : Peg} → check Q c ≡ true → Absorbs (far c) c (ahead R) → ((s : List ℕ) → ahead Q s ≤ ahead R s)
     → ((s : List ℕ) → lost c s ≤ ahead R s) → Tail Q (opt c) (ahead R)
 opt-last Q R {c} k f l m = record { settles = abs-opt (first Q c k) l; bounded = far-opt f m }
 
@@ -120,7 +122,7 @@ abbrev pub Dull : Peg → Type 0
 Dull q = offs (firsts skip) (firsts q) ≡ true
 
 -- blanks and then q, where p takes and starts with no blank, is q
-pub unskip : {e : List ℕ → ℕ} (q p : Peg) → check [] p ≡ true → Absorbs (far q) p e → Absorbs (far (seq skip q)) p e
+unskip : {e : List ℕ → ℕ} (q p : Peg) → check [] p ≡ true → Absorbs (far q) p e → Absorbs (far (seq skip q)) p e
 unfolding check far
 unskip q p c a =
     let i = both-is (offs (firsts skip) (firsts p)) (not (nullable p)) c in
@@ -133,21 +135,21 @@ unskip q p c a =
 -- ---- item ("," item)* ","?
 
 abbrev pub comma : Peg
-comma = lit (44 ∷ [])
+comma = text ","
 
 abbrev pub step : Peg → Peg
-step item = seq comma (seq skip item)
+step item = comma ~ item
 
 abbrev pub steps : Peg → Peg
 steps item = seq (step item) (star (seq skip (step item)))
 
 abbrev pub listOf : Peg → Peg
-listOf item = seq item (seq skip (seq (opt (steps item)) (seq skip (opt comma))))
+listOf item = item ~ opt (steps item) ~ opt comma
 
 module _ (item : Peg) (Q : List Peg) (fi : Absorbs (far item) item (ahead Q)) (kc : check Q comma ≡ true) (ki : check [] item ≡ true) where
   far-step : Absorbs (far (step item)) (step item) (ahead (step item ∷ Q))
   unfolding ahead
-  far-step = abs-up (λ s. omega arith) (then (far-lit (44 ∷ [])) (solid [] ki fi))
+  far-step = abs-up (λ s. omega arith) (then (far-lit (bytes ",")) (solid [] ki fi))
 
   far-next : Absorbs (far (seq skip (step item))) (seq skip (step item)) (ahead (step item ∷ Q))
   unfolding check
@@ -171,13 +173,13 @@ module _ (item : Peg) (Q : List Peg) (fi : Absorbs (far item) item (ahead Q)) (k
 
   comma-settles : Absorbs (ahead (step item ∷ Q)) comma (ahead (item ∷ step item ∷ Q))
   unfolding check ahead more
-  comma-settles = abs-more (unskip (step item) comma refl (part (seq skip item) (far-lit (44 ∷ [])) (λ s. omega arith))) (first Q comma kc)
+  comma-settles = abs-more (unskip (step item) comma refl (part (seq skip item) (far-lit (bytes ",")) (λ s. omega arith))) (first Q comma kc)
 
   comma-tail : Tail (step item ∷ Q) (opt comma) (ahead (item ∷ step item ∷ Q))
   unfolding ahead byte
   comma-tail = record {
     settles = abs-opt comma-settles (λ s. omega arith);
-    bounded = far-opt (far-lit (44 ∷ [])) (λ s. omega (arith, lost-le comma s, byte-far comma s refl, ahead-pos Q s));
+    bounded = far-opt (far-lit (bytes ",")) (λ s. omega (arith, lost-le comma s, byte-far comma s refl, ahead-pos Q s));
   }
 
   pub far-list : Absorbs (far (listOf item)) (listOf item) (ahead (item ∷ step item ∷ Q))
@@ -193,7 +195,7 @@ unfolding ahead
 wide [] Q s = omega arith
 wide (p ∷ P) Q s = omega (arith, wide P Q s)
 
-pub member : (P : List Peg) (q : Peg) (Q : List Peg) (s : List ℕ) → far (seq skip q) s ≤ ahead (P ++ q ∷ Q) s
+member : (P : List Peg) (q : Peg) (Q : List Peg) (s : List ℕ) → far (seq skip q) s ≤ ahead (P ++ q ∷ Q) s
 unfolding ahead
 member [] q Q s = omega arith
 member (p ∷ P) q Q s = omega (arith, member P q Q s)
@@ -207,3 +209,8 @@ lost-in P q Q d s = omega (arith, lost-le q s, bare q d s, member P q Q s)
 
 pub lost-skip-in : (P : List Peg) (q : Peg) (Q : List Peg) (s : List ℕ) → lost (seq skip q) s ≤ ahead (P ++ q ∷ Q) s
 lost-skip-in P q Q s = omega (arith, lost-le (seq skip q) s, member P q Q s)
+
+-- c? where c starts with no blank
+pub may : (Q R : List Peg) {c : Peg} → check Q c ≡ true → Dull c → ((s : List ℕ) → ahead Q s ≤ ahead R s) → Absorbs (far c) c (ahead (c ∷ R))
+    → Tail Q (opt c) (ahead (c ∷ R))
+may Q R {c} k d l f = opt-last Q (c ∷ R) k f (λ s. omega (arith, l s, wide (c ∷ []) R s)) (lost-in [] c R d)

@@ -2,15 +2,14 @@
 -- nodes' text stands later.
 use Prim.Native.Nat.{ℕ, _+_, _-_, _≤_}
 use native.Mathlib.Omega.{arith}
-use mathlib.Core.Path.{_≡_, refl, sym, ap, ap₂, _∙_}
+use mathlib.Core.Path.{_≡_, refl, sym, ap, _∙_}
 use mathlib.Core.Bool.{Bool, true, false}
 use mathlib.Core.List.{List, [], _∷_, _++_}
 use lib.ListN.{take, drop}
-use Rattle.meaning.specs.declared.SourceLocation.{SourceLocation}
 use Rattle.meaning.specs.Choice.{pick}
 use Rattle.meaning.specs.Rules.{Rule, is}
 use Rattle.meaning.specs.Forest.{Forest, nil, tree}
-use Rattle.meaning.specs.Places.{at, placeAt}
+use Rattle.meaning.specs.Places.{placeAt}
 use Rattle.meaning.specs.Convert.{convert, reasonOf, valueOf}
 use Rattle.meaning.specs.Tables.{Item, int}
 use Rattle.meaning.specs.Walk.{Part, absent, node, part, orPart, following, each, place, name, unquoted, value, optional, number}

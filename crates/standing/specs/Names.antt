@@ -26,7 +26,7 @@ names-⊕ (tree r s l k more) g = go (is Rule.COMMENT r) (names-⊕ more g)
     go true e = e
     go false e = ap (λ (x : List Rule). r ∷ x) e
 
-pub names-shift : (n : ℕ) (f : Forest) → names (shift n f) ≡ names f
+names-shift : (n : ℕ) (f : Forest) → names (shift n f) ≡ names f
 names-shift n nil = refl
 names-shift n (tree r s l k more) = ap (λ (x : List Rule). pick (is Rule.COMMENT r) x (r ∷ x)) (names-shift n more)
 

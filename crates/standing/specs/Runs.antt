@@ -24,7 +24,7 @@ unfolding check
 far-item = blanks (solid [] refl far-declaration) .bounded
 
 -- the same with the declaration's own bytes as the text
-pub item-own : (w u : List ℕ) (f : Forest) → plain item w ≡ took (length w) f → plain item (w ++ u) ≡ took (length w) f
+item-own : (w u : List ℕ) (f : Forest) → plain item w ≡ took (length w) f → plain item (w ++ u) ≡ took (length w) f
 item-own w u f e = ap (λ v. plain item (v ++ u)) (sym (lib.Seq.take-length w)) ∙ own item far-item w u (length w) f e
 
 pub data Items : List ℕ → Forest → Type 0 where
