@@ -1,9 +1,10 @@
 // What the programs list of a source: the rows of its tables, or the layouts of its declarations. A source that is refused has
 // the one line of its refusal in either list.
+ghost use Prim.Native.Nat.{_+_};
 ghost use mathlib.Core.Path.{_≡_};
 ghost use lib.ListN.{length, replicate};
 ghost use Rattle.reading.specs.Outcomes.{outcome};
-ghost use Rattle.listing.specs.Lists.{linesOf, listed, Lists};
+ghost use Rattle.listing.specs.Lists.{longest, linesOf, listed, Lists};
 use ast::numbers;
 use printing::answers::put_reading;
 use printing::answers::put_refusal;
@@ -93,9 +94,16 @@ pub fn put_source(src: &[u8], wanted: Wanted, page: &mut [u8]) -> usize
     )
 }
 
+// Room for one byte more than the longest source, so that a longer one is seen to be too long.
+fn source_room() -> [u8; LONGEST + 1]
+    ensures { λ r. ⌜ (r ≡ replicate (longest + 1) 0) × (longest + 1 ≡ length r) ⌝ }
+{
+    [0; LONGEST + 1]
+}
+
 // Reads a source from standard input and writes its list to standard output.
 pub fn print_input(wanted: Wanted) {
-    let mut source = [0u8; 16385];
+    let mut source = source_room();
     let n = io::read_full(0, &mut source);
     let mut page = empty_page();
     let end = put_source(&source[..n], wanted, &mut page);

@@ -47,7 +47,7 @@ whole text before after r w h =
     (n ∙ z, ap (λ (x : Page). take r (x .bytes)) (w .is) ∙ ap (λ (k : ℕ). take k (wrote text (page 0 before) .bytes)) n ∙ s .1)
 
 -- ---- the room of lines
-digits-room : (f n : ℕ) → length (digitsOf f n) ≤ f
+pub digits-room : (f n : ℕ) → length (digitsOf f n) ≤ f
 unfolding digitsOf
 digits-room zero n = omega arith
 digits-room (suc f) n = go (digits-room f (n / 10)) (ltb n 10)
@@ -64,7 +64,7 @@ words-room (w ∷ ws) =
     let h : length (words ws) ≤ 21 * length ws = words-room ws in
     simp length-append (omega arith)
 
-line-room : (letter : ℕ) (ws : List ℕ) → length (line letter ws) ≤ 21 * length ws + 2
+pub line-room : (letter : ℕ) (ws : List ℕ) → length (line letter ws) ≤ 21 * length ws + 2
 line-room letter ws = let h : length (words ws) ≤ 21 * length ws = words-room ws in simp length-append (omega arith)
 
 -- a word takes 23 bytes at most, for a row has one word at least

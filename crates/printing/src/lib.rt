@@ -1,5 +1,5 @@
-// What the programs write, on a lent page: the lines of an answer, and those of layouts. A full page takes no more.
+// What the programs write, on a lent page: texts and numbers, the lines of an answer, and those of layouts. A full page takes no more.
 pub mod answers;
 pub mod layouts;
-mod lines;
-mod pages;
+pub mod lines;
+pub mod pages;

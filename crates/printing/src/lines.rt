@@ -6,7 +6,7 @@ use crate::pages::put_byte;
 use crate::pages::put_bytes;
 
 // A number in decimal digits.
-fn put_number(page: &mut [u8], at: usize, n: u64) -> usize
+pub fn put_number(page: &mut [u8], at: usize, n: u64) -> usize
     ensures { λ r. ⌜ Wrote (decimal n) at (now (page .entry)) r (now (page .exit)) ⌝ }
 {
     let mut digits = [0u8; 20];

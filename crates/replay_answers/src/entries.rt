@@ -1,7 +1,10 @@
-// The entries of the list, by where their parts stand. A part that is not there has the place 0.
+// The entries of the list, by where their parts stand.
 ghost use Prim.Native.Nat.{_≤_};
+ghost use mathlib.Core.Path.{_≡_};
+ghost use mathlib.Core.Bool.{false};
 ghost use lib.ListN.{length};
-ghost use Rattle.replay_answers.specs.Entries.{Ordered};
+ghost use Rattle.replay_answers.specs.Entries.{over, heading, Behind, Ends, Found};
+use crate::lines::is_line;
 use lexis::bytes::Class;
 use lexis::bytes::run_of;
 
@@ -20,140 +23,115 @@ struct Number {
     end: usize,
 }
 
-// The place behind this byte.
-fn past(list: &[u8], at: usize, b: u8) -> usize
-    ensures { λ r. ⌜ r ≤ length (now (list .entry)) ⌝ }
+// Whether the head is over at this byte: it starts a line, and is no `#`.
+fn is_over(inside: bool, b: u8) -> bool
+    ensures { λ r. ⌜ r ≡ over inside b ⌝ }
 {
-    if list.len() <= at {
-        return 0;
+    if inside {
+        return false;
     }
-    if list[at] == b {
-        return at + 1;
-    }
-    0
-}
-
-// Where the next line starts.
-fn next_line(list: &[u8], at: usize) -> usize
-    requires { ⌜ at ≤ length (now list) ⌝ }
-    ensures { λ r. ⌜ (at ≤ r) × (r ≤ length (now (list .entry))) ⌝ }
-{
-    let mut i = at;
-    while i < list.len() {
-        let b = list[i];
-        i += 1;
-        if b == b'\n' {
-            return i;
-        }
-    }
-    i
+    b != b'#'
 }
 
 // Where the lines end that start with `#`.
 pub fn head_end(list: &[u8]) -> usize
-    ensures { λ r. ⌜ r ≤ length (now (list .entry)) ⌝ }
+    ensures { λ r. ⌜ (r ≡ heading false (now (list .entry))) × (r ≤ length (now (list .entry))) ⌝ }
 {
+    let mut inside = false;
     let mut i: usize = 0;
-    loop {
-        let p = past(list, i, b'#');
-        if p <= i {
+    while i < list.len() {
+        let b = list[i];
+        if is_over(inside, b) {
             return i;
         }
-        i = next_line(list, p);
+        inside = b != b'\n';
+        i += 1;
     }
+    i
 }
 
-// The number behind a space.
-fn number_at(list: &[u8], at: usize) -> Number
-    ensures { λ r. ⌜ r .end ≤ length (now (list .entry)) ⌝ }
+// The place behind a byte, whichever it is; the list's end stays.
+fn behind(list: &[u8], at: usize) -> usize
+    requires { ⌜ at ≤ length (now list) ⌝ }
+    ensures { λ r. ⌜ Behind (now (list .entry)) at r ⌝ }
 {
-    let start = past(list, at, b' ');
-    if start <= at {
-        return Number { value: 0, end: 0 };
+    if at < list.len() {
+        return at + 1;
     }
-    let end = start + run_of(&list[start..], Class::Digit);
+    at
+}
+
+// The number that stands there.
+fn number_at(list: &[u8], at: usize) -> Number
+    requires { ⌜ at ≤ length (now list) ⌝ }
+    ensures { λ r. ⌜ (at ≤ r .end) × (r .end ≤ length (now (list .entry))) ⌝ }
+{
+    let end = at + run_of(&list[at..], Class::Digit);
     Number {
-        value: text::value_of(text::convert(&list[start..end])),
+        value: text::value_of(text::convert(&list[at..end])),
         end,
     }
 }
 
-// The place behind a part of so many bytes and the LF behind it.
-fn past_part(list: &[u8], at: usize, bytes: u64) -> usize
+// Where a part of so many bytes ends that has LF behind it; where there is none, the list's end.
+fn part_end(list: &[u8], at: usize, bytes: u64) -> usize
     requires { ⌜ at ≤ length (now list) ⌝ }
-    ensures { λ r. ⌜ r ≤ length (now (list .entry)) ⌝ }
+    ensures { λ r. ⌜ Ends (now (list .entry)) at bytes r ⌝ }
 {
-    if ((list.len() - at) as u64) < bytes {
-        return 0;
+    if (list.len() - at) as u64 <= bytes {
+        return list.len();
     }
-    past(list, at + bytes as usize, b'\n')
+    let end = at + bytes as usize;
+    if list[end] == b'\n' {
+        return end;
+    }
+    list.len()
 }
 
-// No entry.
-fn none(list: &[u8]) -> Entry
-    ensures { λ r. ⌜ Ordered (now (list .entry)) r ⌝ }
-{
-    Entry {
-        source: 0,
-        stop: 0,
-        lines: 0,
-        last: 0,
-        next: 0,
-    }
-}
-
-// The entry whose source starts there, by the lengths of its parts.
-fn entry_of(list: &[u8], at: usize, source: u64, lines: u64) -> Entry
+// No entry: one that ends where it starts.
+fn none(list: &[u8], at: usize) -> Entry
     requires { ⌜ at ≤ length (now list) ⌝ }
-    ensures { λ r. ⌜ Ordered (now (list .entry)) r ⌝ }
+    ensures { λ r. ⌜ Found (now (list .entry)) at r ⌝ }
 {
-    let second = past_part(list, at, source);
-    if second <= at {
-        return none(list);
-    }
-    let next = past_part(list, second, lines);
-    if next <= second {
-        return none(list);
-    }
     Entry {
         source: at,
-        stop: second - 1,
-        lines: second,
-        last: next - 1,
-        next,
+        stop: at,
+        lines: at,
+        last: at,
+        next: at,
     }
 }
 
-// The entry that starts there.
-pub fn entry_at(list: &[u8], at: usize) -> Entry
-    ensures { λ r. ⌜ Ordered (now (list .entry)) r ⌝ }
+// The entry between whose start and source its line stands, with parts of so many bytes.
+fn entry_of(list: &[u8], at: usize, source: usize, n: u64, m: u64) -> Entry
+    requires { ⌜ (at ≤ source) × (source ≤ length (now list)) ⌝ }
+    ensures { λ r. ⌜ Found (now (list .entry)) at r ⌝ }
 {
-    let start = past(list, at, b'S');
-    let n = number_at(list, start);
-    let m = number_at(list, n.end);
-    let source = past(list, m.end, b'\n');
-    if start <= at {
-        return none(list);
+    let stop = part_end(list, source, n);
+    let lines = behind(list, stop);
+    let last = part_end(list, lines, m);
+    if list.len() <= last {
+        return none(list, at);
     }
-    if source <= start {
-        return none(list);
+    if is_line(list, at, source, b'S', &[n, m]) {
+        return Entry {
+            source,
+            stop,
+            lines,
+            last,
+            next: last + 1,
+        };
     }
-    entry_of(list, source, n.value, m.value)
+    none(list, at)
 }
 
-// Whether the list ends there as it should: with the number of its entries, and nothing behind it.
-pub fn is_ended(list: &[u8], at: usize, entries: u64) -> bool {
-    let start = past(list, at, b'Z');
-    let n = number_at(list, start);
-    let end = past(list, n.end, b'\n');
-    if start <= at {
-        return false;
-    }
-    if end <= start {
-        return false;
-    }
-    if n.value != entries {
-        return false;
-    }
-    end == list.len()
+// The entry that starts there. Its numbers are read between bytes that are not looked at, since its whole line is compared afterwards.
+pub fn entry_at(list: &[u8], at: usize) -> Entry
+    requires { ⌜ at ≤ length (now list) ⌝ }
+    ensures { λ r. ⌜ Found (now (list .entry)) at r ⌝ }
+{
+    let n = number_at(list, behind(list, behind(list, at)));
+    let m = number_at(list, behind(list, n.end));
+    let source = behind(list, m.end);
+    entry_of(list, at, source, n.value, m.value)
 }

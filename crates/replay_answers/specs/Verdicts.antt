@@ -1,0 +1,45 @@
+-- What the program writes of a list: how many answers are the same and how many are not, or where the list is damaged.
+use Prim.Native.Nat.{ℕ, _+_, _≤_}
+use mathlib.Core.Path.{_≡_}
+use mathlib.Core.List.{List, [], _∷_, _++_}
+use native.Mathlib.Omega.{arith}
+use lib.ListN.{length, drop, length-append}
+use Rattle.io.specs.Counts.{Counts}
+use Rattle.meaning.specs.Quoted.{bytes}
+use Rattle.printing.specs.Lines.{decimal, line}
+use Rattle.printing.specs.Pages.{Wrote}
+use Rattle.printing.specs.Room.{digits-room}
+use Rattle.replay_answers.specs.declared.Tally.{Tally}
+use Rattle.replay_answers.specs.Tallies.{Replayed, start}
+
+-- the last line of a list: Z and the number of its entries
+abbrev pub ending : ℕ → List ℕ
+ending entries = line 90 (entries ∷ [])
+
+unfoldable pub tallied : ℕ → ℕ → List ℕ
+tallied passed failed = decimal passed ++ bytes " passed, " ++ decimal failed ++ bytes " failed\n"
+
+unfoldable pub damaged : ℕ → List ℕ
+damaged at = bytes "the list is damaged at byte " ++ decimal at ++ bytes "\n"
+
+-- either line has room on the program's page
+pub tallied-room : (passed failed : ℕ) → length (tallied passed failed) ≤ 64
+unfolding tallied
+tallied-room passed failed = simp length-append (omega (arith, digits-room 20 passed, digits-room 20 failed))
+
+pub damaged-room : (at : ℕ) → length (damaged at) ≤ 64
+unfolding damaged
+damaged-room at = simp length-append (omega (arith, digits-room 20 at))
+
+-- what is written of a tally: itself where the list ends there with its last line, else the damage
+pub record Told (list : List ℕ) (t : Tally) (before : List ℕ) (r : ℕ) (after : List ℕ) : Type 0 where
+  pub ended : drop (t .at) list ≡ ending (t .passed + t .failed) → Wrote (tallied (t .passed) (t .failed)) 0 before r after
+  pub broken : (drop (t .at) list ≡ ending (t .passed + t .failed) → ⊥) → Wrote (damaged (t .at)) 0 before r after
+  pub count : Counts r after
+
+-- and of a list
+pub record Verdict (list before : List ℕ) (r : ℕ) (after : List ℕ) : Type 0 where
+  pub tally : Tally
+  pub replayed : Replayed list (start list) tally
+  pub told : Told list tally before r after
+  pub count : Counts r after
