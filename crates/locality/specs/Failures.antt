@@ -13,11 +13,11 @@ use Rattle.meaning.specs.Peg.{Peg, lit, range, any, any-byte, end, neg, seq, al
 use Rattle.meaning.specs.Forest.{Forest}
 use Rattle.text.specs.ChoiceLaws.{never, both-is}
 use Rattle.locality.specs.Plain.{Out, missed, took, after, seqE, altE, ruleE, starE, plain, Took}
-use Rattle.locality.specs.Holding.{Law, holds-map, holding}
+use Rattle.locality.specs.Holding.{Law, taken}
 use Rattle.locality.specs.Least.{nullable}
 use Rattle.locality.specs.PlainLaws.{star-took}
-use Rattle.locality.specs.Looks.{litF, seqF, altF, starF, far}
-use Rattle.locality.specs.Absorbing.{Absorbs, Bound, lost, lostF, abs-le, abs-rule, lost-le}
+use Rattle.locality.specs.Looks.{litF, seqF, altF, starF, far, altF-le}
+use Rattle.locality.specs.Absorbing.{Absorbs, Bound, lost, lostF, more, abs-le, abs-more, abs-rule, lost-le}
 use Rattle.locality.specs.Firsts.{firsts, offs, abs-first₂, misses, near}
 use Rattle.locality.specs.Literals.{differ, differ-far}
 
@@ -59,20 +59,6 @@ lost-star a b s = go (plain a s)
         )
 
 -- ---- alternatives that begin with quoted texts
-
-abbrev pub headLit : Peg → List ℕ
-headLit (lit l) = l
-headLit (range a b) = []
-headLit any = []
-headLit any-byte = []
-headLit (quiet p) = headLit p
-headLit end = []
-headLit (neg p) = []
-headLit (seq a b) = headLit a
-headLit (alt a b) = []
-headLit (star p) = []
-headLit (opt p) = []
-headLit (rule r p) = headLit p
 
 abbrev pub outside : List ℕ → ℕ → ℕ → Bool
 outside [] a b = false
@@ -124,28 +110,60 @@ leads l = record {
   on-rule = λ r p s n f e x. x;
 }
 
+-- wherever b takes, the expression misses, at a quoted text that it begins with
+abbrev pub opens : Peg → Peg → Bool
+opens (lit l) b = begins l b
+opens (range lo hi) b = false
+opens any b = false
+opens any-byte b = false
+opens (quiet p) b = opens p b
+opens end b = false
+opens (neg p) b = false
+opens (seq x y) b = opens x b
+opens (alt x y) b = both (opens x b) (opens y b)
+opens (star p) b = false
+opens (opt p) b = false
+opens (rule r p) b = opens p b
+
 seq-no : (o : Out) (x m : ℕ) (k : ℕ → Out) (h : ℕ → ℕ) → (o ≡ missed) × (x ≤ m) → (seqE o k ≡ missed) × (seqF x o h ≤ m)
 seq-no o x m k h i = (rw (i .0), rw (i .0) (i .1))
 
-head-no : (p : Peg) (s : List ℕ) → prefixb (headLit p) s ≡ false → (plain p s ≡ missed) × (far p s ≤ litF (headLit p) s)
-unfolding plain far
-head-no (lit l) s e = (rw e, omega arith)
-head-no (range a b) s e = never (sym e)
-head-no any s e = never (sym e)
-head-no any-byte s e = never (sym e)
-head-no (quiet p) s e = head-no p s e
-head-no end s e = never (sym e)
-head-no (neg p) s e = never (sym e)
-head-no (seq a b) s e = seq-no (plain a s) (far a s) (litF (headLit a) s) (λ n. plain b (drop n s)) (λ n. far b (drop n s)) (head-no a s e)
-head-no (alt a b) s e = never (sym e)
-head-no (star p) s e = never (sym e)
-head-no (opt p) s e = never (sym e)
-head-no (rule r p) s e = let i = head-no p s e in (ap (ruleE r) (i .0), i .1)
+alt-no : (o r : Out) (x y m : ℕ) → (o ≡ missed) × (x ≤ m) → (r ≡ missed) × (y ≤ m) → (altE o r ≡ missed) × (altF x o y ≤ m)
+alt-no o r x y m i j = (rw (i .0) (j .0), altF-le o x y m (i .1) (j .1))
 
-pub lost-head : {e : List ℕ → ℕ} (a b : Peg) → begins (headLit a) b ≡ true → Absorbs (lost a) b e
-lost-head {e} a b d = record {
-  at = λ s. holds-map (plain b s) (λ n f x. let i = x d in omega (arith, i .0, head-no a s (i .1) .1, lost-le a s)) (holding (leads (headLit a)) b s);
-}
+head-no : (p b : Peg) → opens p b ≡ true → (s : List ℕ) (n : ℕ) (f : Forest) → plain b s ≡ took n f → (plain p s ≡ missed) × (far p s ≤ n)
+unfolding plain far
+head-no (lit l) b d s n f e = let i = taken (leads l) b s n f e d in (rw (i .1), i .0)
+head-no (range lo hi) b d s n f e = never d
+head-no any b d s n f e = never d
+head-no any-byte b d s n f e = never d
+head-no (quiet p) b d s n f e = head-no p b d s n f e
+head-no end b d s n f e = never d
+head-no (neg p) b d s n f e = never d
+head-no (seq x y) b d s n f e = seq-no (plain x s) (far x s) n (λ m. plain y (drop m s)) (λ m. far y (drop m s)) (head-no x b d s n f e)
+head-no (alt x y) b d s n f e =
+    let i = both-is (opens x b) (opens y b) d in
+    alt-no (plain x s) (plain y s) (far x s) (far y s) n (head-no x b (i .0) s n f e) (head-no y b (i .1) s n f e)
+head-no (star p) b d s n f e = never d
+head-no (opt p) b d s n f e = never d
+head-no (rule r p) b d s n f e = let i = head-no p b d s n f e in (ap (ruleE r) (i .0), i .1)
+
+pub lost-head : {e : List ℕ → ℕ} (a b : Peg) → opens a b ≡ true → Absorbs (lost a) b e
+lost-head {e} a b d = record { at = λ s. go s (plain b s) refl }
+  where
+    go : (s : List ℕ) (o : Out) → plain b s ≡ o → Bound o (lost a s) (λ n. e (drop n s))
+    go s missed q = tt
+    go s (took n f) q = omega (arith, head-no a b d s n f q .1, lost-le a s)
+
+-- two failed alternatives
+pub lost-two : {e : List ℕ → ℕ} {b : Peg} (x y : Peg) → Absorbs (lost x) b e → Absorbs (lost y) b e → Absorbs (lost (alt x y)) b e
+unfolding lost plain far more
+lost-two {e} {b} x y p q = abs-le (λ s. go (plain x s) (plain y s) (far x s) (far y s)) (abs-more p q)
+  where
+    go : (o r : Out) (m n : ℕ) → lostF (altE o r) (altF m o n) ≤ max (lostF o m) (lostF r n)
+    go missed missed m n = omega arith
+    go missed (took k f) m n = omega arith
+    go (took k f) r m n = omega arith
 
 -- ---- a choice inside a failed alternative
 

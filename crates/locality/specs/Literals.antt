@@ -135,19 +135,6 @@ differ-far (c ∷ l) (d ∷ m) (x ∷ s) e q = go (eqb c x) refl (differ-far l m
     go true p ih = let i = ih (not-or (eqb c d) (differ l m) (same p) e) (same-head .1) in (omega (arith, i .0), i .1)
     go false p ih = (omega arith, refl)
 
-lost-lit₁ : (l m : List ℕ) (a : Peg) → differ l m ≡ true → Absorbs (lost (seq (lit l) a)) (lit m) nought
-unfolding plain far lost nought
-lost-lit₁ l m a d = record { at = λ s. go s (prefixb m s) refl }
-  where
-    go : (s : List ℕ) (v : Bool) → prefixb m s ≡ v
-        → Bound (when v (length m)) (lostF (seqE (when (prefixb l s) (length l)) (λ n. plain a (drop n s)))
-        (seqF (litF l s) (when (prefixb l s) (length l)) (λ n. far a (drop n s)))) (λ n. 0)
-    go s true q = let i = differ-far l m s d q in rw (i .1) (omega (arith, i .0))
-    go s false q = tt
-
-pub lost-lit : {e : List ℕ → ℕ} (l m : List ℕ) (a b : Peg) → differ l m ≡ true → Absorbs (lost (seq (lit l) a)) (seq (lit m) b) e
-lost-lit l m a b d = abs-seq (lost-lit₁ l m a d) abs-nil
-
 -- ---- text up to a quoted one
 
 unfoldable pub to : List ℕ → List ℕ → ℕ

@@ -12,7 +12,6 @@ use Rattle.meaning.specs.Forest.{Forest, eval, Out as Full, missed as failed, t
 use Rattle.locality.specs.Plain.{Out, missed, took, plain}
 use Rattle.locality.specs.Looks.{far, took-le, local}
 use Rattle.locality.specs.Absorbing.{Absorbs, nought, one, one-le}
-use Rattle.locality.specs.Brackets.{right, respelt}
 use Rattle.locality.specs.Likeness.{placed, Like, steady, alike}
 
 pub far-one : (p : Peg) (s : List ℕ) (n : ℕ) (f : Forest) → Absorbs (far p) p one → plain p s ≡ took n f → far p s ≤ n + 1
@@ -37,10 +36,9 @@ pub record Takes (g : Peg) (o : ℕ) (t : List ℕ) (n : ℕ) (w : Forest) : Typ
   pub mark : ℕ
   pub is : eval (bytewise g) o t ≡ held n mark w
 
--- g, which is q in another spelling, and q looks at nothing behind its end
-pub lasting : (g q : Peg) → right g ≡ right q → steady g ≡ true → Absorbs (far q) q nought → (o n : ℕ) (s u : List ℕ) (w : Forest) → Takes g o s n w
+pub lasting : (g : Peg) → steady g ≡ true → Absorbs (far g) g nought → (o n : ℕ) (s u : List ℕ) (w : Forest) → Takes g o s n w
     → Takes g o (take n s ++ u) n w
-lasting g q e h a o n s u w t = go (plain g s) refl (subst (λ (x : Full). Like o x (plain g s)) (t .is) (alike g h o s))
+lasting g h a o n s u w t = go (plain g s) refl (subst (λ (x : Full). Like o x (plain g s)) (t .is) (alike g h o s))
   where
     back : (F : Forest) → w ≡ placed o F → plain g (take n s ++ u) ≡ took n F → (x : Full) → eval (bytewise g) o (take n s ++ u) ≡ x
         → Like o x (plain g (take n s ++ u)) → Takes g o (take n s ++ u) n w
@@ -53,5 +51,5 @@ lasting g q e h a o n s u w t = go (plain g s) refl (subst (λ (x : Full). Like 
     go missed p l = absurd (subst (Like o (held n (t .mark) w)) p l)
     go (took m F) p l =
         let z = subst (Like o (held n (t .mark) w)) p l in
-        let k : plain q s ≡ took n F = sym (respelt g q e s) ∙ p ∙ ap (λ (i : ℕ). took i F) (sym (z .0)) in
-        back F (z .1) (respelt g q e (take n s ++ u) ∙ own q a s u n F k) (eval (bytewise g) o (take n s ++ u)) refl (alike g h o (take n s ++ u))
+        let k : plain g s ≡ took n F = p ∙ ap (λ (i : ℕ). took i F) (sym (z .0)) in
+        back F (z .1) (own g a s u n F k) (eval (bytewise g) o (take n s ++ u)) refl (alike g h o (take n s ++ u))

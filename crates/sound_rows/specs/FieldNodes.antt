@@ -8,13 +8,13 @@ use lib.ListN.{length}
 use Rattle.meaning.specs.Choice.{pick}
 use Rattle.meaning.specs.Rules.{Rule, is}
 use Rattle.meaning.specs.Forest.{Forest, nil, tree, clean}
+use Rattle.meaning.specs.Pdl.{rules as grammar}
 use Rattle.meaning.specs.Rows.{field-words}
 use Rattle.meaning.specs.Walk.{Part, part, orPart, place, name, Desc, no, fixed, array, describe, described}
 use Rattle.meaning.specs.Feeding.{damaged}
 use Rattle.text.specs.ChoiceLaws.{never}
 use Rattle.sound_rows.specs.Notes.{Note, _has_, _lists_, Told, Noted, only, noted, noted-clean}
 use Rattle.locality.specs.Holding.{allowed}
-use Rattle.standing.specs.NestedGrammar.{skip}
 use Rattle.standing.specs.Sources.{core}
 use Rattle.standing.specs.Files.{Whole, to-core}
 use Rattle.standing.specs.Names.{every}
@@ -56,7 +56,7 @@ notes =
 
 -- computed from the grammar
 pub whole-noted : {s : List ℕ} {w : Forest} → Whole s w → Noted rules notes (clean w)
-unfolding allowed every only skip
+unfolding allowed every only grammar
 whole-noted {s} a =
     let c = to-core a in
     rw (c .places) (noted-clean notes 0 (c .bare) (noted notes core refl s (length s) (c .bare) (c .takes)))

@@ -12,13 +12,13 @@ use Rattle.meaning.specs.Choice.{pick, both}
 use Rattle.meaning.specs.Rules.{Rule, order, is}
 use Rattle.meaning.specs.Peg.{Peg}
 use Rattle.meaning.specs.Forest.{Forest, nil, tree, _⊕_, clean}
+use Rattle.meaning.specs.Pdl.{rules as grammar}
 use Rattle.reading.specs.Matched.{whole}
 use Rattle.text.specs.ChoiceLaws.{both-is, never}
 use Rattle.locality.specs.Plain.{shift, plain, took}
 use Rattle.locality.specs.Holding.{NodeLaw, allowed, nodes-hold}
 use Rattle.locality.specs.Likeness.{placed, placed-⊕, placed-shift}
 use Rattle.locality.specs.Least.{least, AtLeast, at-least}
-use Rattle.standing.specs.NestedGrammar.{skip}
 use Rattle.standing.specs.Sources.{core}
 use Rattle.standing.specs.Names.{names, names-placed, every, Passes, passes}
 use Rattle.standing.specs.Kinds.{starting, rules, rules-clean}
@@ -172,7 +172,7 @@ law = record {
 
 -- ---- the nodes of a source that the grammar matches
 ranged : {s : List ℕ} {w : Forest} → Core s w → Ranged names Any 0 (length s) w
-unfolding allowed every least skip
+unfolding allowed every least grammar
 ranged {s} c =
     let e : 0 + length s ≡ length s = omega arith in
     rw (c .places) (rw e at (nodes-hold law core refl s (length s) (c .bare) (c .takes) 0))

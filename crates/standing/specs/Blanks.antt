@@ -9,32 +9,35 @@ use Rattle.meaning.specs.Quoted.{bytes}
 use Rattle.meaning.specs.Rules.{Rule}
 use Rattle.meaning.specs.Peg.{Peg, any, neg, seq, alt, star}
 use Rattle.meaning.specs.Forest.{Forest, nil}
-use Rattle.meaning.specs.Pdl.{text}
+use Rattle.meaning.specs.Pdl.{text, WHITESPACE, block-comment, line-comment, COMMENT, skip}
 use Rattle.locality.specs.Plain.{Out, missed, took, plain, Took, Holds}
 use Rattle.locality.specs.Holding.{holds-map}
 use Rattle.locality.specs.Least.{least}
 use Rattle.locality.specs.PlainLaws.{seq-took, star-is}
-use Rattle.locality.specs.Looks.{litF, seqF, starSF, far, seqF-ge, altF-ge, star-unfold}
+use Rattle.locality.specs.Looks.{seqF, starSF, far, star-unfold}
 use Rattle.locality.specs.Stars.{Still, seq-ends, still-star, star-ge, star-ends}
-use Rattle.locality.specs.Absorbing.{Absorbs, Bound, one, abs-up, abs-nil, far-seq, far-alt, far-rule, abs-star, far-star, lost-le, abs-const, one-le, le-one, abs-one, seq-ge}
-use Rattle.locality.specs.Literals.{byte, far-bytes, abs-lit, far-lit, lost-lit, far-text, to-le, lit-pos}
-use Rattle.standing.specs.NestedGrammar.{ws, block, line, comment, skip}
+use Rattle.locality.specs.Absorbing.{Absorbs, Bound, one, abs-up, abs-nil, far-seq, far-alt, far-rule, abs-star, far-star, lost-le, abs-const, one-le, le-one, abs-one, seq-ge, alt-ge}
+use Rattle.locality.specs.Literals.{byte, far-bytes, abs-lit, far-lit, far-text, to-le, lit-pos}
+use Rattle.locality.specs.Failures.{lost-head}
 
-pub far-block : {e : List ℕ → ℕ} → Absorbs (far block) block e
-far-block = far-seq (far-lit _) abs-nil (far-seq (far-text (bytes "*/") (omega arith)) (abs-lit _ (to-le (bytes "*/"))) (far-lit _))
+pub far-block : {e : List ℕ → ℕ} → Absorbs (far block-comment) block-comment e
+unfolding block-comment
+far-block = far-seq (far-seq (far-lit _) abs-nil (far-text (bytes "*/") (omega arith))) (abs-lit _ (to-le (bytes "*/"))) (far-lit _)
 
-far-line : Absorbs (far line) line one
+far-line : Absorbs (far line-comment) line-comment one
+unfolding line-comment
 far-line = far-seq (far-lit _) abs-nil (abs-up (λ s. omega (arith, to-le (bytes "\n") s, le-one s)) (far-text (bytes "\n") (omega arith)))
 
-pub far-comment : Absorbs (far comment) comment one
-far-comment = far-rule Rule.COMMENT (far-alt far-block (lost-lit (bytes "/*") (bytes "//") _ _ refl) far-line)
+pub far-comment : Absorbs (far COMMENT) COMMENT one
+unfolding COMMENT block-comment line-comment
+far-comment = far-rule Rule.COMMENT (far-alt far-block (lost-head block-comment line-comment refl) far-line)
 
-pub far-ws : Absorbs (far (star ws)) (star ws) one
-unfolding byte least
-far-ws = far-bytes ws refl refl
+pub far-ws : Absorbs (far (star WHITESPACE)) (star WHITESPACE) one
+unfolding byte least WHITESPACE
+far-ws = far-bytes WHITESPACE refl refl
 
 unfoldable pub turn : Peg
-turn = seq comment (star ws)
+turn = seq COMMENT (star WHITESPACE)
 
 pub far-turn : Absorbs (far turn) turn one
 unfolding turn
@@ -43,8 +46,8 @@ far-turn = far-seq far-comment (abs-star abs-one (λ s. omega arith)) far-ws
 pub skip-took : (s : List ℕ) → Took (plain skip s)
 unfolding plain skip
 skip-took s =
-    seq-took (plain (star ws) s) (λ n. plain (star (seq comment (star ws))) (drop n s)) (star-is ws s)
-    (λ n. star-is (seq comment (star ws)) (drop n s))
+    seq-took (plain (star WHITESPACE) s) (λ n. plain (star (seq COMMENT (star WHITESPACE))) (drop n s)) (star-is WHITESPACE s)
+    (λ n. star-is (seq COMMENT (star WHITESPACE)) (drop n s))
 
 -- ---- where a run ends
 
@@ -52,56 +55,59 @@ holds-unit : (o : Out) → Holds (λ n f. Unit {0}) o
 holds-unit missed = tt
 holds-unit (took n f) = tt
 
-ws-ends : (s : List ℕ) → Holds (λ n f. Still ws (drop n s)) (plain (star ws) s)
-ws-ends s = holds-map (plain (star ws) s) (λ n f x. x .1) (star-ends ws (λ t. Unit {0}) (λ t. holds-unit (plain ws t)) s tt)
+ws-ends : (s : List ℕ) → Holds (λ n f. Still WHITESPACE (drop n s)) (plain (star WHITESPACE) s)
+ws-ends s = holds-map (plain (star WHITESPACE) s) (λ n f x. x .1) (star-ends WHITESPACE (λ t. Unit {0}) (λ t. holds-unit (plain WHITESPACE t)) s tt)
 
-turn-ends : (s : List ℕ) → Holds (λ n f. Still ws (drop n s)) (plain turn s)
+turn-ends : (s : List ℕ) → Holds (λ n f. Still WHITESPACE (drop n s)) (plain turn s)
 unfolding turn
-turn-ends s = seq-ends comment (star ws) (λ t. Unit {0}) (Still ws) s (holds-unit (plain comment s)) (λ t i. ws-ends t)
+turn-ends s = seq-ends COMMENT (star WHITESPACE) (λ t. Unit {0}) (Still WHITESPACE) s (holds-unit (plain COMMENT s)) (λ t i. ws-ends t)
 
 Done : List ℕ → Type 0
-Done s = Still ws s × Still turn s
+Done s = Still WHITESPACE s × Still turn s
 
 skip-ends : (s : List ℕ) → Holds (λ n f. Done (drop n s)) (plain skip s)
-unfolding skip turn Done
-skip-ends s = seq-ends (star ws) (star turn) (Still ws) Done s (ws-ends s) (λ t i. star-ends turn (Still ws) turn-ends t i)
+unfolding skip turn Done plain
+skip-ends s = seq-ends (star WHITESPACE) (star turn) (Still WHITESPACE) Done s (ws-ends s) (λ t i. star-ends turn (Still WHITESPACE) turn-ends t i)
 
 -- ---- a run of blanks, from its end
 
 done-took : (s : List ℕ) → Done s → plain skip s ≡ took 0 nil
 unfolding skip turn Done plain
-done-took s d = rw (still-star ws s (d .0), still-star turn s (d .1))
+done-took s d = rw (still-star WHITESPACE s (d .0), still-star turn s (d .1))
 
 done-far : (s : List ℕ) → Done s → far (star turn) s ≤ far skip s
 unfolding skip turn Done far
-done-far s d = rw (still-star ws s (d .0)) (omega arith)
+done-far s d = rw (still-star WHITESPACE s (d .0)) (omega arith)
 
-block-pos : (s : List ℕ) → 1 ≤ far block s
-unfolding far
-block-pos s =
+comment-pos : (s : List ℕ) → 1 ≤ far COMMENT s
+unfolding far COMMENT block-comment
+comment-pos s =
     omega (
       arith,
       lit-pos 47 (bytes "*") s,
-      seqF-ge (litF (bytes "/*") s) (plain (text "/*") s)
-          (λ n. far (seq (star (seq (neg (text "*/")) any)) (text "*/")) (drop n s)),
+      seq-ge (text "/*") (star (seq (neg (text "*/")) any)) s,
+      seq-ge (seq (text "/*") (star (seq (neg (text "*/")) any))) (text "*/") s,
+      alt-ge block-comment line-comment s,
     )
-
-comment-ge : (s : List ℕ) → far block s ≤ far comment s
-unfolding far
-comment-ge s = altF-ge (far block s) (plain block s) (far line s)
 
 turns-pos : (s : List ℕ) → 1 ≤ far (star turn) s
 unfolding turn
-turns-pos s = omega (arith, block-pos s, comment-ge s, seq-ge comment (star ws) s, star-ge turn s)
+turns-pos s = omega (arith, comment-pos s, seq-ge COMMENT (star WHITESPACE) s, star-ge turn s)
 
-ws-pos : (s : List ℕ) → 1 ≤ far ws s
-unfolding far
+ws-pos : (s : List ℕ) → 1 ≤ far WHITESPACE s
+unfolding far WHITESPACE
 ws-pos s =
-    omega (arith, lit-pos 32 [] s, altF-ge (litF (bytes " ") s) (plain (text " ") s) (far (alt (text "\n") (alt (text "\r") (text "\t"))) s))
+    omega (
+      arith,
+      lit-pos 32 [] s,
+      alt-ge (text " ") (text "\n") s,
+      alt-ge (alt (text " ") (text "\n")) (text "\r") s,
+      alt-ge (alt (alt (text " ") (text "\n")) (text "\r")) (text "\t") s,
+    )
 
 pub skip-pos : (s : List ℕ) → 1 ≤ far skip s
-unfolding skip
-skip-pos s = omega (arith, ws-pos s, star-ge ws s, seq-ge (star ws) (star (seq comment (star ws))) s)
+unfolding skip far
+skip-pos s = omega (arith, ws-pos s, star-ge WHITESPACE s, seq-ge (star WHITESPACE) (star (seq COMMENT (star WHITESPACE))) s)
 
 turns-step : Absorbs (far (star turn)) turn (far (star turn))
 turns-step = record { at = λ s. rw (star-unfold turn s .1) (go s (plain turn s) (far-turn .at s)) }
@@ -116,8 +122,8 @@ far-turns : Absorbs (far (star turn)) (star turn) (far (star turn))
 far-turns = far-star (abs-up (λ s. omega (arith, one-le s, turns-pos s)) far-turn) turns-step (λ s. omega (arith, lost-le turn s, star-ge turn s))
 
 far-skip₁ : Absorbs (far skip) skip (far (star turn))
-unfolding skip turn
-far-skip₁ = far-seq far-ws (abs-const 1 one-le turns-pos) far-turns
+unfolding skip turn plain far
+far-skip₁ = record { at = far-seq far-ws (abs-const 1 one-le turns-pos) far-turns .at }
 
 -- what blanks and then q look at, from before a run of blanks and from after it
 pub look : (q : Peg) → Absorbs (far (seq skip q)) skip (far (seq skip q))

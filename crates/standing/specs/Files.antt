@@ -10,7 +10,7 @@ use Rattle.meaning.specs.Utf8.{valid}
 use Rattle.meaning.specs.Rules.{Rule}
 use Rattle.meaning.specs.Peg.{Peg, end, seq, rule, hit}
 use Rattle.meaning.specs.Forest.{Forest, nil, tree, _⊕_, clean, outcome, eval, Out as Full, missed as failed, took as held}
-use Rattle.meaning.specs.Pdl.{file, rules, text}
+use Rattle.meaning.specs.Pdl.{skip, _~_, repeat, endianness-declaration, declaration, SOI, EOI, file, rules}
 use Rattle.grammar.specs.Bytewise.{file-joined}
 use Rattle.grammar.specs.Nodes.{⊕-assoc}
 use Rattle.grammar.specs.Bounds.{Held}
@@ -18,13 +18,11 @@ use Rattle.locality.specs.Plain.{Out, missed, took, shift, after, seqE, ruleE, 
 use Rattle.locality.specs.Holding.{allowed}
 use Rattle.locality.specs.Least.{least}
 use Rattle.locality.specs.PlainLaws.{shift-⊕}
-use Rattle.locality.specs.Brackets.{right, respelt}
 use Rattle.locality.specs.Likeness.{placed, placed-⊕, Like, steady, alike}
 use Rattle.grammar.specs.Bounds.{wider}
 use Rattle.locality.specs.Insides.{inside}
 use Rattle.locality.specs.Closings.{Final, end-final, seq-final}
-use Rattle.standing.specs.NestedGrammar.{skip, endianness, _~_}
-use Rattle.standing.specs.Sources.{ends, some-decls, tail, core}
+use Rattle.standing.specs.Sources.{core}
 use Rattle.standing.specs.Names.{every}
 use Rattle.standing.specs.Kinds.{Kinded, kinds-of}
 use Rattle.standing.specs.CommentLengths.{Long, longs}
@@ -49,33 +47,24 @@ seq-closed a b c h s = go (plain a s)
     go missed = refl
     go (took n f) = ap (after n f) (h (drop n s)) ∙ after-closed n f (plain c (drop n s))
 
-end-closed : (s : List ℕ) → plain (rule Rule.EOI end) s ≡ closed (plain end s)
-unfolding plain
+end-closed : (s : List ℕ) → plain EOI s ≡ closed (plain end s)
+unfolding plain EOI
 end-closed [] = refl
 end-closed (x ∷ s) = refl
 
-abbrev shut : Peg
-shut = text "" ~ endianness ~ some-decls ~ rule Rule.EOI end
-
-shut-is : (s : List ℕ) → plain shut s ≡ closed (plain core s)
-shut-is =
-    seq-closed (text "") _ (seq skip (seq endianness tail)) (seq-closed skip _ (seq endianness tail)
-    (seq-closed endianness _ tail (seq-closed skip _ (seq some-decls ends) (seq-closed some-decls _ ends (seq-closed skip _ end end-closed)))))
-
--- ---- the grammar of Pdl.antt, by computation
-spelt : right file ≡ right (rule Rule.file shut)
-unfolding rules right skip
-spelt = refl
+abbrev before : Peg
+before = SOI ~ endianness-declaration ~ repeat declaration
 
 is-steady : steady file ≡ true
 unfolding rules steady
 is-steady = refl
 
 file-is : (s : List ℕ) → plain file s ≡ ruleE Rule.file (closed (plain core s))
-file-is s = respelt file (rule Rule.file shut) spelt s ∙ unfold plain in ap (ruleE Rule.file) (shut-is s)
+unfolding plain file
+file-is s = ap (ruleE Rule.file) (seq-closed before (seq skip EOI) (seq skip end) (seq-closed skip EOI end end-closed) s)
 
 core-final : (s : List ℕ) → Final s (plain core s)
-core-final = seq-final (text "") _ (seq-final skip _ (seq-final endianness _ (seq-final skip _ (seq-final some-decls _ (seq-final skip end end-final)))))
+core-final = seq-final before _ (seq-final skip end end-final)
 
 -- ---- the source and its nodes before the end; some mark
 pub record Whole (s : List ℕ) (w : Forest) : Type 0 where
@@ -152,11 +141,11 @@ core-held : (s : List ℕ) (F : Forest) → plain core s ≡ took (length s) F �
 core-held s F e = wider 0 (0 + length s) 0 (length s) (placed 0 F) (omega arith) (omega arith) (inside core s (length s) F e 0)
 
 core-kinds : (s : List ℕ) (F : Forest) → plain core s ≡ took (length s) F → Kinded (clean (placed 0 F))
-unfolding allowed every skip
+unfolding allowed every rules
 core-kinds s F e = kinds-of core refl s (length s) F e 0
 
 core-long : (s : List ℕ) (F : Forest) → plain core s ≡ took (length s) F → Long (placed 0 F)
-unfolding allowed least skip
+unfolding allowed least rules
 core-long s F e = longs core refl s (length s) F e 0
 
 pub whole-of : (s : List ℕ) → valid s ≡ length s → hit (outcome (eval file 0 s)) ≡ true → (w : Forest) × Whole s w

@@ -12,6 +12,7 @@ use Rattle.meaning.specs.Quoted.{bytes}
 use Rattle.meaning.specs.Rules.{Rule, is}
 use Rattle.meaning.specs.Peg.{prefixb}
 use Rattle.meaning.specs.Forest.{Forest, nil, tree, _⊕_, clean}
+use Rattle.meaning.specs.Pdl.{rules as grammar}
 use Rattle.meaning.specs.Walk.{Part, absent, node, part, place, endianness}
 use Rattle.grammar.specs.Bounds.{Held}
 use Rattle.reading.specs.Matched.{whole}
@@ -19,7 +20,6 @@ use Rattle.text.specs.ChoiceLaws.{never}
 use Rattle.locality.specs.Plain.{Out, missed, took, shift, seqE, plain, Took}
 use Rattle.locality.specs.PlainLaws.{took-part}
 use Rattle.locality.specs.Likeness.{placed}
-use Rattle.standing.specs.NestedGrammar.{skip}
 use Rattle.standing.specs.Sources.{body, core, hd, core-hd}
 use Rattle.standing.specs.Names.{names, names-⊕, names-placed, every, Passes, passes}
 use Rattle.standing.specs.Kinds.{starting, rules, rules-clean}
@@ -39,7 +39,7 @@ starting-++ [] y h = never h
 starting-++ (r ∷ x) y h = h
 
 hd-first : every hd (starting here) ≡ true
-unfolding every skip
+unfolding every grammar
 hd-first = refl
 
 -- the line is the first node that is no comment

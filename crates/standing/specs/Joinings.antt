@@ -7,6 +7,7 @@ use native.Mathlib.Omega.{arith}
 use lib.ListN.{length, length-append}
 use Rattle.meaning.specs.Utf8.{valid}
 use Rattle.meaning.specs.Forest.{Forest, nil, tree, _⊕_, clean}
+use Rattle.meaning.specs.Pdl.{rules}
 use Rattle.grammar.specs.Nodes.{nil-right}
 use Rattle.grammar.specs.Bounds.{Held}
 use Rattle.locality.specs.Plain.{took, shift, after, plain, size}
@@ -17,7 +18,6 @@ use Rattle.locality.specs.Likeness.{placed, placed-⊕, placed-shift}
 use Rattle.grammar.specs.Bounds.{wider}
 use Rattle.locality.specs.Insides.{inside}
 use Rattle.locality.specs.ValidTexts.{valid-behind, valid-line}
-use Rattle.standing.specs.NestedGrammar.{skip}
 use Rattle.standing.specs.Sources.{body, core, file-append}
 use Rattle.standing.specs.Names.{every}
 use Rattle.standing.specs.Kinds.{Kinded, kinds-of}
@@ -45,7 +45,7 @@ pub record Head (p : List ℕ) (F : Forest) : Type 0 where
 
 -- it is a source by itself
 body-nil : plain body [] ≡ took 0 nil
-unfolding plain skip
+unfolding plain rules
 body-nil = refl
 
 pub head-whole : {p : List ℕ} {F : Forest} → Head p F → Whole p (placed 0 F)
@@ -69,11 +69,11 @@ pub record Stands (p q b : List ℕ) (k : ℕ) (old w v : Forest) : Type 0 where
   pub joined : Whole (q ++ 10 ∷ b) (w ⊕ movedBy k new)
 
 body-kinds : (u : List ℕ) (b : Forest) (o n : ℕ) → plain body u ≡ took n b → Kinded (clean (placed o b))
-unfolding allowed every skip
+unfolding allowed every rules
 body-kinds u b o n e = kinds-of body refl u n b e o
 
 body-long : (u : List ℕ) (b : Forest) (o n : ℕ) → plain body u ≡ took n b → Long (placed o b)
-unfolding allowed least skip
+unfolding allowed least rules
 body-long u b o n e = longs body refl u n b e o
 
 stands : (p q b : List ℕ) {k : ℕ} {F w v : Forest} → Head p F → length p + k ≡ length q + 1 → valid q ≡ length q → valid (p ++ b) ≡ length (p ++ b)

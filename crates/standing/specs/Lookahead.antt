@@ -11,7 +11,7 @@ use lib.ListN.{drop}
 use Rattle.meaning.specs.Choice.{both}
 use Rattle.meaning.specs.Quoted.{bytes}
 use Rattle.meaning.specs.Peg.{Peg, seq, star, opt}
-use Rattle.meaning.specs.Pdl.{text}
+use Rattle.meaning.specs.Pdl.{text, skip, _~_, repeat, rules}
 use Rattle.text.specs.ChoiceLaws.{both-is}
 use Rattle.locality.specs.Plain.{Out, missed, took, plain, Took, Holds}
 use Rattle.locality.specs.Least.{nullable, least}
@@ -20,7 +20,6 @@ use Rattle.locality.specs.Absorbing.{Absorbs, lost, more, abs-le, abs-up, abs-m
 use Rattle.locality.specs.Firsts.{Span, firsts, offs, offs-sound, calm, calm-append, abs-first, abs-first₂, near, idle}
 use Rattle.locality.specs.Literals.{byte, byte-far, far-lit}
 use Rattle.locality.specs.Failures.{part, lost-star}
-use Rattle.standing.specs.NestedGrammar.{skip, _~_}
 use Rattle.standing.specs.Blanks.{look, far-skip, skip-pos, skip-took}
 
 unfoldable pub ahead : List Peg → List ℕ → ℕ
@@ -28,13 +27,13 @@ ahead [] s = far skip s
 ahead (q ∷ Q) s = max (far (seq skip q) s) (ahead Q s)
 
 unfoldable pub spans : List Peg → List Span
-unfolding firsts least skip
+unfolding firsts least rules
 spans [] = firsts skip
 spans (q ∷ Q) = firsts (seq skip q) ++ spans Q
 
 -- b takes a byte, which is no blank and starts nothing of Q
 unfoldable pub check : List Peg → Peg → Bool
-unfolding firsts least skip spans
+unfolding firsts least rules spans
 check Q b = both (offs (spans Q) (firsts b)) (not (nullable b))
 
 -- so does what begins with it
@@ -94,10 +93,6 @@ opt-last : (Q R : List Peg) {c : Peg} → check Q c ≡ true → Absorbs (far c)
     → ((s : List ℕ) → lost c s ≤ ahead R s) → Tail Q (opt c) (ahead R)
 opt-last Q R {c} k f l m = record { settles = abs-opt (first Q c k) l; bounded = far-opt f m }
 
--- what is after: a tail, then a tail
-pub join-tail : {Q R : List Peg} {a b : Peg} {e : List ℕ → ℕ} → Tail Q a (ahead R) → Tail R b e → Tail Q (seq a (seq skip b)) e
-join-tail {Q} {R} t u = record { settles = abs-seq (t .settles) (blanks u .settles); bounded = far-seq (t .bounded) (blanks u .settles) (blanks u .bounded) }
-
 -- a failed alternative with the same front
 pub then-lost : {x b : Peg} {e : List ℕ → ℕ} (Q : List Peg) (a : Peg) → Absorbs (far x) x (ahead Q) → Absorbs (ahead Q) b e → Absorbs (lost a) b e
     → Absorbs (lost (seq x (seq skip a))) (seq x (seq skip b)) e
@@ -140,11 +135,11 @@ comma = text ","
 abbrev pub step : Peg → Peg
 step item = comma ~ item
 
-abbrev pub steps : Peg → Peg
-steps item = seq (step item) (star (seq skip (step item)))
+abbrev pub chainOf : Peg → Peg
+chainOf item = item ~ repeat (step item)
 
 abbrev pub listOf : Peg → Peg
-listOf item = item ~ opt (steps item) ~ opt comma
+listOf item = chainOf item ~ opt comma
 
 module _ (item : Peg) (Q : List Peg) (fi : Absorbs (far item) item (ahead Q)) (kc : check Q comma ≡ true) (ki : check [] item ≡ true) where
   far-step : Absorbs (far (step item)) (step item) (ahead (step item ∷ Q))
@@ -159,16 +154,12 @@ module _ (item : Peg) (Q : List Peg) (fi : Absorbs (far item) item (ahead Q)) (k
   unfolding check ahead more
   next-settles = abs-more far-next (blanks (solid Q (seq-check Q comma (seq skip item) kc) far-step) .settles)
 
-  far-steps : Absorbs (far (steps item)) (steps item) (ahead (step item ∷ Q))
-  unfolding ahead
-  far-steps =
-      far-seq far-step (abs-star next-settles (λ s. omega arith))
-      (far-star far-next next-settles (λ s. omega (arith, lost-le (seq skip (step item)) s)))
-
-  list-tail : Tail Q (opt (steps item)) (ahead (step item ∷ Q))
+  list-tail : Tail Q (repeat (step item)) (ahead (step item ∷ Q))
   unfolding check ahead
   list-tail =
-      opt-last Q (step item ∷ Q) (seq-check Q (step item) (star (seq skip (step item))) (seq-check Q comma (seq skip item) kc)) far-steps (λ s. omega arith)
+      opt-last Q (step item ∷ Q) (seq-check Q (step item) (star (seq skip (step item))) (seq-check Q comma (seq skip item) kc))
+      (far-seq far-step (abs-star next-settles (λ s. omega arith)) (far-star far-next next-settles (λ s. omega (arith, lost-le (seq skip (step item)) s))))
+      (λ s. omega arith)
       (λ s. omega (arith, lost-star (step item) (seq skip (step item)) s, bare (step item) refl s))
 
   comma-settles : Absorbs (ahead (step item ∷ Q)) comma (ahead (item ∷ step item ∷ Q))
@@ -182,11 +173,11 @@ module _ (item : Peg) (Q : List Peg) (fi : Absorbs (far item) item (ahead Q)) (k
     bounded = far-opt (far-lit (bytes ",")) (λ s. omega (arith, lost-le comma s, byte-far comma s refl, ahead-pos Q s));
   }
 
-  pub far-list : Absorbs (far (listOf item)) (listOf item) (ahead (item ∷ step item ∷ Q))
-  far-list = then fi (join-tail list-tail comma-tail)
-
-  pub far-chain : Absorbs (far (seq item (seq skip (opt (steps item))))) (seq item (seq skip (opt (steps item)))) (ahead (step item ∷ Q))
+  pub far-chain : Absorbs (far (chainOf item)) (chainOf item) (ahead (step item ∷ Q))
   far-chain = then fi list-tail
+
+  pub far-list : Absorbs (far (listOf item)) (listOf item) (ahead (item ∷ step item ∷ Q))
+  far-list = then far-chain comma-tail
 
 -- ---- a list of what may be tried, in a longer one
 

@@ -6,13 +6,13 @@ use lib.ListN.{length, length-append}
 use lib.Seq.{drop-append-seam}
 use Rattle.meaning.specs.Peg.{Peg, seq, star}
 use Rattle.meaning.specs.Forest.{Forest, nil, _⊕_}
+use Rattle.meaning.specs.Pdl.{skip, declaration}
 use Rattle.locality.specs.Plain.{took, shift, after, plain}
 use Rattle.locality.specs.PlainLaws.{after-after, after-zero}
 use Rattle.locality.specs.Looks.{far}
 use Rattle.locality.specs.Stars.{star-took-suc}
 use Rattle.locality.specs.Absorbing.{Absorbs, nought}
 use Rattle.locality.specs.OwnBytes.{own}
-use Rattle.standing.specs.NestedGrammar.{skip, declaration}
 use Rattle.standing.specs.Lookahead.{check, solid, blanks}
 use Rattle.standing.specs.Declarations.{far-declaration}
 
