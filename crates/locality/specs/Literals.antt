@@ -9,12 +9,12 @@ use lib.ListN.{length, drop}
 use Rattle.meaning.specs.Choice.{pick, both, either}
 use Rattle.meaning.specs.Peg.{Peg, lit, range, any, any-byte, end, neg, seq, alt, star, opt, quiet, rule, prefixb}
 use Rattle.text.specs.ChoiceLaws.{never, both-is}
-use Rattle.locality.specs.Plain.{Out, missed, took, after, when, negE, seqE, starS, plain, size}
+use Rattle.locality.specs.Plain.{Out, missed, took, after, when, negE, starS, plain, size}
 use Rattle.locality.specs.Least.{some, nullable, AtLeast}
 use Rattle.locality.specs.PlainLaws.{after-zero, cont, after-cont, size-after-took, star-is}
 use Rattle.locality.specs.Looks.{litF, seqF, far, reach, local, star-unfold, altF-le}
 use Rattle.locality.specs.Stars.{star-nil}
-use Rattle.locality.specs.Absorbing.{Absorbs, Bound, lost, lostF, nought, one, abs-nil, abs-seq, far-star, lost-le, abs-const, le-one, abs-one}
+use Rattle.locality.specs.Absorbing.{Absorbs, Bound, one, far-star, lost-le, abs-const, le-one, abs-one}
 
 -- an expression that looks at one byte at most, whatever it does
 abbrev pub single : List ℕ → Bool

@@ -8,9 +8,9 @@ use native.Mathlib.Omega.{arith}
 use lib.ListN.{length, drop}
 use Rattle.meaning.specs.Utf8.{valid}
 use Rattle.meaning.specs.Rules.{Rule}
-use Rattle.meaning.specs.Peg.{Peg, end, seq, rule, hit}
+use Rattle.meaning.specs.Peg.{Peg, end, seq, hit}
 use Rattle.meaning.specs.Forest.{Forest, nil, tree, _⊕_, clean, outcome, eval, Out as Full, missed as failed, took as held}
-use Rattle.meaning.specs.Pdl.{skip, _~_, repeat, endianness-declaration, declaration, SOI, EOI, file, rules}
+use Rattle.meaning.specs.Pdl.{skip, EOI, file, rules}
 use Rattle.grammar.specs.Bytewise.{file-joined}
 use Rattle.grammar.specs.Nodes.{⊕-assoc}
 use Rattle.grammar.specs.Bounds.{Held}
@@ -22,7 +22,7 @@ use Rattle.locality.specs.Likeness.{placed, placed-⊕, Like, steady, alike}
 use Rattle.grammar.specs.Bounds.{wider}
 use Rattle.locality.specs.Insides.{inside}
 use Rattle.locality.specs.Closings.{Final, end-final, seq-final}
-use Rattle.standing.specs.Sources.{core}
+use Rattle.standing.specs.Sources.{before, core}
 use Rattle.standing.specs.Names.{every}
 use Rattle.standing.specs.Kinds.{Kinded, kinds-of}
 use Rattle.standing.specs.CommentLengths.{Long, longs}
@@ -51,9 +51,6 @@ end-closed : (s : List ℕ) → plain EOI s ≡ closed (plain end s)
 unfolding plain EOI
 end-closed [] = refl
 end-closed (x ∷ s) = refl
-
-abbrev before : Peg
-before = SOI ~ endianness-declaration ~ repeat declaration
 
 is-steady : steady file ≡ true
 unfolding rules steady
