@@ -37,7 +37,7 @@ unfolding firsts least rules spans
 check Q b = both (offs (spans Q) (firsts b)) (not (nullable b))
 
 -- so does what begins with it
-pub seq-check : (Q : List Peg) (b r : Peg) → check Q b ≡ true → check Q (seq b r) ≡ true
+seq-check : (Q : List Peg) (b r : Peg) → check Q b ≡ true → check Q (seq b r) ≡ true
 unfolding check
 seq-check Q b r c =
     let i = both-is (offs (spans Q) (firsts b)) (not (nullable b)) c in
