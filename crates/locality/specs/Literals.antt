@@ -12,8 +12,8 @@ use Rattle.text.specs.ChoiceLaws.{never, both-is}
 use Rattle.locality.specs.Plain.{Out, missed, took, after, when, negE, starS, plain, size}
 use Rattle.locality.specs.Least.{some, nullable, AtLeast}
 use Rattle.locality.specs.PlainLaws.{after-zero, cont, after-cont, size-after-took, star-is}
-use Rattle.locality.specs.Looks.{litF, seqF, far, reach, local, star-unfold, altF-le}
-use Rattle.locality.specs.Stars.{star-nil}
+use Rattle.locality.specs.Looks.{litF, seqF, far, reach, local, star-unfold, altF-le, altF-ge, seqF-ge}
+use Rattle.locality.specs.Stars.{star-nil, star-ge}
 use Rattle.locality.specs.Absorbing.{Absorbs, Bound, one, far-star, lost-le, abs-const, le-one, abs-one}
 
 -- an expression that looks at one byte at most, whatever it does
@@ -76,15 +76,50 @@ far-byte p b v = abs-some v (λ s. byte-far p s b)
 pub far-bytes : (p : Peg) → byte p ≡ true → nullable p ≡ false → Absorbs (far (star p)) (star p) one
 far-bytes p b v = far-star (far-byte p b v) abs-one (λ s. omega (arith, lost-le p s, byte-far p s b, le-one s))
 
--- ---- quoted texts
+-- ---- an expression that looks at one byte at least
+abbrev pub filled : List ℕ → Bool
+filled [] = false
+filled (c ∷ l) = true
 
-pub lit-pos : (c : ℕ) (l s : List ℕ) → 1 ≤ litF (c ∷ l) s
-lit-pos c l [] = omega arith
-lit-pos c l (x ∷ s) = go (eqb c x)
+unfoldable pub sees : Peg → Bool
+sees (lit l) = filled l
+sees (range a b) = true
+sees any = true
+sees any-byte = true
+sees (quiet p) = sees p
+sees end = true
+sees (neg p) = sees p
+sees (seq a b) = sees a
+sees (alt a b) = sees a
+sees (star p) = sees p
+sees (opt p) = sees p
+sees (rule r p) = sees p
+
+lit-sees : (l s : List ℕ) → filled l ≡ true → 1 ≤ litF l s
+lit-sees [] s e = never e
+lit-sees (c ∷ l) [] e = omega arith
+lit-sees (c ∷ l) (x ∷ s) e = go (eqb c x)
   where
     go : (b : Bool) → 1 ≤ pick b (suc (litF l s)) 1
     go true = omega arith
     go false = omega arith
+
+pub far-pos : (p : Peg) (s : List ℕ) → sees p ≡ true → 1 ≤ far p s
+unfolding sees far
+far-pos (lit l) s e = lit-sees l s e
+far-pos (range a b) s e = omega arith
+far-pos any s e = omega arith
+far-pos any-byte s e = omega arith
+far-pos (quiet p) s e = far-pos p s e
+far-pos end s e = omega arith
+far-pos (neg p) s e = far-pos p s e
+far-pos (seq a b) s e = omega (arith, far-pos a s e, seqF-ge (far a s) (plain a s) (λ n. far b (drop n s)))
+far-pos (alt a b) s e = omega (arith, far-pos a s e, altF-ge (far a s) (plain a s) (far b s))
+far-pos (star p) s e = omega (arith, far-pos p s e, star-ge p s)
+far-pos (opt p) s e = far-pos p s e
+far-pos (rule r p) s e = far-pos p s e
+
+-- ---- quoted texts
 
 pub lit-far : (l s : List ℕ) → litF l s ≤ length l
 lit-far [] s = omega arith

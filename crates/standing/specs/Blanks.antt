@@ -1,23 +1,23 @@
 -- Blanks: a run of them is never missed, and stands at once: where it ended, none is left, and it looks no further than a run from
 -- there.
 use mathlib.Core.Path.{_≡_, refl}
-use mathlib.Core.List.{List, []}
+use mathlib.Core.List.{List}
 use Prim.Native.Nat.{ℕ, zero, suc, _≤_}
 use native.Mathlib.Omega.{arith}
 use lib.ListN.{drop}
 use Rattle.meaning.specs.Quoted.{bytes}
 use Rattle.meaning.specs.Rules.{Rule}
-use Rattle.meaning.specs.Peg.{Peg, any, neg, seq, alt, star}
+use Rattle.meaning.specs.Peg.{Peg, seq, star}
 use Rattle.meaning.specs.Forest.{Forest, nil}
-use Rattle.meaning.specs.Pdl.{text, WHITESPACE, block-comment, line-comment, COMMENT, skip}
+use Rattle.meaning.specs.Pdl.{WHITESPACE, block-comment, line-comment, COMMENT, skip}
 use Rattle.locality.specs.Plain.{Out, missed, took, plain, Took, Holds}
 use Rattle.locality.specs.Holding.{holds-map}
 use Rattle.locality.specs.Least.{least}
 use Rattle.locality.specs.PlainLaws.{seq-took, star-is}
 use Rattle.locality.specs.Looks.{seqF, starSF, far, star-unfold}
 use Rattle.locality.specs.Stars.{Still, seq-ends, still-star, star-ge, star-ends}
-use Rattle.locality.specs.Absorbing.{Absorbs, Bound, one, abs-up, abs-nil, far-seq, far-alt, far-rule, abs-star, far-star, lost-le, abs-const, one-le, le-one, abs-one, seq-ge, alt-ge}
-use Rattle.locality.specs.Literals.{byte, far-bytes, abs-lit, far-lit, far-text, to-le, lit-pos}
+use Rattle.locality.specs.Absorbing.{Absorbs, Bound, one, abs-up, abs-nil, far-seq, far-alt, far-rule, abs-star, far-star, lost-le, abs-const, one-le, le-one, abs-one}
+use Rattle.locality.specs.Literals.{byte, far-bytes, abs-lit, far-lit, far-text, to-le, sees, far-pos}
 use Rattle.locality.specs.Failures.{lost-head}
 
 pub far-block : {e : List ℕ → ℕ} → Absorbs (far block-comment) block-comment e
@@ -79,35 +79,13 @@ done-far : (s : List ℕ) → Done s → far (star turn) s ≤ far skip s
 unfolding skip turn Done far
 done-far s d = rw (still-star WHITESPACE s (d .0)) (omega arith)
 
-comment-pos : (s : List ℕ) → 1 ≤ far COMMENT s
-unfolding far COMMENT block-comment
-comment-pos s =
-    omega (
-      arith,
-      lit-pos 47 (bytes "*") s,
-      seq-ge (text "/*") (star (seq (neg (text "*/")) any)) s,
-      seq-ge (seq (text "/*") (star (seq (neg (text "*/")) any))) (text "*/") s,
-      alt-ge block-comment line-comment s,
-    )
-
 turns-pos : (s : List ℕ) → 1 ≤ far (star turn) s
-unfolding turn
-turns-pos s = omega (arith, comment-pos s, seq-ge COMMENT (star WHITESPACE) s, star-ge turn s)
-
-ws-pos : (s : List ℕ) → 1 ≤ far WHITESPACE s
-unfolding far WHITESPACE
-ws-pos s =
-    omega (
-      arith,
-      lit-pos 32 [] s,
-      alt-ge (text " ") (text "\n") s,
-      alt-ge (alt (text " ") (text "\n")) (text "\r") s,
-      alt-ge (alt (alt (text " ") (text "\n")) (text "\r")) (text "\t") s,
-    )
+unfolding sees turn COMMENT block-comment
+turns-pos s = far-pos (star turn) s refl
 
 pub skip-pos : (s : List ℕ) → 1 ≤ far skip s
-unfolding skip far
-skip-pos s = omega (arith, ws-pos s, star-ge WHITESPACE s, seq-ge (star WHITESPACE) (star (seq COMMENT (star WHITESPACE))) s)
+unfolding sees skip WHITESPACE
+skip-pos s = far-pos skip s refl
 
 turns-step : Absorbs (far (star turn)) turn (far (star turn))
 turns-step = record { at = λ s. rw (star-unfold turn s .1) (go s (plain turn s) (far-turn .at s)) }
