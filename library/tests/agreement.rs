@@ -1,0 +1,147 @@
+//! What this package and the C header repeat of the port's sources is what stands there: the entries with their parameters, the
+//! sizes of rows, the words by name, the numbers of tables and refusals. So are the tables of docs/ROWS.md.
+
+mod sources;
+
+use std::collections::{BTreeMap, BTreeSet};
+use std::fmt::Debug;
+
+use pdl_front::{
+    ChunkKind, CommentKind, ConstraintKind, DeclarationKind, Endianness, FieldKind, RefusalKind,
+    Table, TagKind, Unconverted,
+};
+use sources::{
+    constants, entries, enumerators, in_one_line, text_of, without_comments, Crossing, Entry,
+    Parameter,
+};
+
+const NUMBERS: &str = "crates/ast/src/numbers.rt";
+const WORDS: &str = "crates/ast/src/words.rt";
+
+/// `TooFewRows` as `TOO_FEW_ROWS`.
+fn upper(kind: impl Debug) -> String {
+    let name = format!("{kind:?}");
+    let parted = name.char_indices().map(|(at, c)| {
+        if at > 0 && c.is_uppercase() {
+            format!("_{c}")
+        } else {
+            c.to_string()
+        }
+    });
+    parted.collect::<String>().to_uppercase()
+}
+
+/// The names and numbers of kinds, behind a prefix.
+fn named<K: Debug + Copy>(prefix: &str, all: &[K], number: fn(K) -> u64) -> BTreeMap<String, u64> {
+    all.iter().map(|kind| (prefix.to_owned() + &upper(kind), number(*kind))).collect()
+}
+
+/// Sizes of rows and positions of words, as the port has them.
+fn sizes_and_positions() -> BTreeMap<String, u64> {
+    let mut all = constants(&text_of(NUMBERS), "usize");
+    all.extend(constants(&text_of(WORDS), "usize"));
+    all
+}
+
+/// How a declaration of Rust says a parameter of the port.
+fn in_rust(Parameter { name, mutable, crossing }: &Parameter) -> String {
+    let (pointer, reference) = if *mutable { ("*mut", "&mut ") } else { ("*const", "&") };
+    match crossing {
+        Crossing::Value(kind) => format!("{name}: {kind}"),
+        Crossing::Reference(kind) => format!("{name}: {reference}{kind}"),
+        Crossing::Slice(element) => format!("{name}: {pointer} {element}, {name}_len: usize"),
+        Crossing::Array(element, length) => format!("{name}: {reference}[{element}; {length}]"),
+    }
+}
+
+/// A type of the port in C.
+fn c_type(kind: &str) -> &'static str {
+    match kind {
+        "u8" => "uint8_t",
+        "u64" => "uint64_t",
+        "usize" => "size_t",
+        _ => panic!("the header knows no type {kind}"),
+    }
+}
+
+/// How a prototype of C says a parameter of the port.
+fn in_c(Parameter { name, mutable, crossing }: &Parameter) -> String {
+    let constant = if *mutable { "" } else { "const " };
+    match crossing {
+        Crossing::Value(kind) => format!("{} {name}", c_type(kind)),
+        Crossing::Reference(kind) => format!("{constant}{} *{name}", c_type(kind)),
+        Crossing::Slice(element) => {
+            format!("{constant}{} *{name}, size_t {name}_len", c_type(element))
+        }
+        Crossing::Array(element, length) => {
+            let prefix = if length.parse::<u64>().is_ok() { "" } else { "PDL_" };
+            format!("{constant}{} {name}[{prefix}{length}]", c_type(element))
+        }
+    }
+}
+
+fn joined(entry: &Entry, said: fn(&Parameter) -> String) -> String {
+    entry.parameters.iter().map(said).collect::<Vec<_>>().join(", ")
+}
+
+#[test]
+fn the_port_has_entries() {
+    assert_eq!(entries().len(), 9);
+    assert!(entries()
+        .iter()
+        .all(|entry| entry.name.starts_with("pdl_") && !entry.parameters.is_empty()));
+}
+
+#[test]
+fn the_declarations_are_those_of_the_port() {
+    let code = text_of("library/src/entries.rs");
+    let (_, block) = code.split_once("extern \"C\" {").expect("the entries are declared");
+    let (block, _) = block.split_once("\n    }\n").expect("the declarations end");
+    let found: BTreeSet<_> = block.split("pub fn ").skip(1).map(in_one_line).collect();
+    let declared = |it: &Entry| format!("{}({}) -> {};", it.name, joined(it, in_rust), it.answer);
+    assert_eq!(found, entries().iter().map(declared).collect());
+}
+
+#[test]
+fn the_prototypes_of_the_header_are_those_of_the_port() {
+    let header = without_comments(&text_of("include/pdl.h"));
+    let statements = header.split_inclusive(';').map(in_one_line);
+    let found: BTreeSet<_> = statements.filter(|it| it.contains('(')).collect();
+    let declared =
+        |it: &Entry| format!("{} {}({});", c_type(&it.answer), it.name, joined(it, in_c));
+    assert_eq!(found, entries().iter().map(declared).collect());
+}
+
+#[test]
+fn sizes_and_positions_are_those_of_the_port() {
+    assert_eq!(constants(&text_of("library/src/words.rs"), "usize"), sizes_and_positions());
+    let sizes = sizes_and_positions();
+    for table in Table::ALL {
+        let name = upper(table).trim_end_matches('S').to_owned() + "_WORDS";
+        assert_eq!(table.row_words() as u64, sizes[&name]);
+    }
+}
+
+#[test]
+fn tables_and_refusals_have_the_numbers_of_the_port() {
+    let mut known = named("", Table::ALL, Table::number);
+    known.extend(named("", RefusalKind::ALL, RefusalKind::number));
+    assert_eq!(known, constants(&text_of(NUMBERS), "u64"));
+}
+
+#[test]
+fn the_header_has_every_number() {
+    let mut wanted = sizes_and_positions();
+    wanted.extend(constants(&text_of(NUMBERS), "u64"));
+    wanted.extend(named("UNCONVERTED_", Unconverted::ALL, Unconverted::number));
+    wanted.extend(named("ENDIANNESS_", Endianness::ALL, Endianness::number));
+    wanted.extend(named("DECLARATION_KIND_", DeclarationKind::ALL, DeclarationKind::number));
+    wanted.extend(named("FIELD_KIND_", FieldKind::ALL, FieldKind::number));
+    wanted.extend(named("TAG_KIND_", TagKind::ALL, TagKind::number));
+    wanted.extend(named("CONSTRAINT_KIND_", ConstraintKind::ALL, ConstraintKind::number));
+    wanted.extend(named("COMMENT_KIND_", CommentKind::ALL, CommentKind::number));
+    wanted.extend(named("CHUNK_KIND_", ChunkKind::ALL, ChunkKind::number));
+    let wanted: BTreeMap<_, _> =
+        wanted.into_iter().map(|(name, number)| (format!("PDL_{name}"), number)).collect();
+    assert_eq!(enumerators(&without_comments(&text_of("include/pdl.h"))), wanted);
+}
