@@ -4,6 +4,7 @@ use std::ffi::OsStr;
 use std::fs::File;
 use std::io::{self, Read};
 use std::os::unix::ffi::OsStrExt;
+use std::os::unix::io::AsFd;
 use std::path::Path;
 
 use pdl_front::MAX_SOURCE;
@@ -29,18 +30,21 @@ impl Description {
         };
         let bytes = match file {
             Some(path) => File::open(path).and_then(limited),
-            None => {
-                if atty::is(atty::Stream::Stdin) {
-                    eprintln!("pdl: reading standard input; `pdl --help` says how to name a file");
-                }
-                limited(io::stdin().lock())
-            }
+            None => standard_input(),
         };
         match bytes {
             Ok(bytes) => Ok(Description { name, bytes }),
             Err(error) => Err(format!("{name} cannot be read: {}", reason(&error))),
         }
     }
+}
+
+/// Reads standard input, and not a byte more than is needed: another may go on where this ends.
+fn standard_input() -> io::Result<Vec<u8>> {
+    if atty::is(atty::Stream::Stdin) {
+        eprintln!("pdl: reading standard input; `pdl --help` says how to name a file");
+    }
+    limited(File::from(io::stdin().as_fd().try_clone_to_owned()?))
 }
 
 /// All bytes, or one more than a description may have; an endless input ends there.

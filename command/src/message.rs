@@ -144,7 +144,8 @@ impl Excerpt {
             .map_or(source.len(), |rest| place.offset + rest);
         // The CR before an LF belongs to the end of the line, and not to what is said on it.
         let end = if end > place.offset && source[end - 1] == b'\r' { end - 1 } else { end };
-        let first = boundary(source, start.max(place.offset.saturating_sub(BEFORE)));
+        let first =
+            boundary(source, start.max(place.offset.saturating_sub(BEFORE))).min(place.offset);
         let last = boundary(source, end.min(place.offset + BEHIND)).max(place.offset);
         let mark_end = end_of_mark(source, place.offset, marked, last);
         let mut text = if first > start { CUT.to_owned() } else { String::new() };

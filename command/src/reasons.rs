@@ -40,10 +40,7 @@ impl<'r, 's> Reasons<'r, 's> {
     pub fn of(&self, it: &Declaration, refusal: &Refusal) -> Vec<String> {
         let field = match (refusal.kind(), self.reading.field(refusal.place)) {
             (Some(RefusalKind::NoSuchDeclaration), _) | (_, None) => {
-                let kind = naming::declaration_kind(it.kind());
-                return vec![format!(
-                    "only packets, structs and groups have a layout, and this is: {kind}"
-                )];
+                return vec!["only packets, structs and groups have a layout".to_owned()];
             }
             (_, Some(field)) => field,
         };

@@ -152,16 +152,16 @@ fn parent_or_text(it: &Declaration) -> String {
 
 /// The rows of a declaration's members.
 fn members(it: &Declaration) -> String {
-    let (what, mut rows) = match it.kind() {
+    let (what, rows) = match it.kind() {
         DeclarationKind::Enum => {
-            ("tags", it.tags().map(|tag| tag.index()).collect::<Vec<_>>().into_iter())
+            ("tag", (it.tags().next().map(|tag| tag.index()), it.tags().len()))
         }
-        _ => ("fields", it.fields().map(|field| field.index()).collect::<Vec<_>>().into_iter()),
+        _ => ("field", (it.fields().next().map(|field| field.index()), it.fields().len())),
     };
-    match (rows.next(), rows.last()) {
+    match rows {
         (None, _) => String::new(),
-        (Some(first), None) => format!("{what} {first}"),
-        (Some(first), Some(last)) => format!("{what} {first} to {last}"),
+        (Some(first), 1) => format!("{what} {first}"),
+        (Some(first), count) => format!("{what}s {first} to {}", first + count - 1),
     }
 }
 
