@@ -52,7 +52,7 @@ pub fn constants(text: &str, wanted: &str) -> BTreeMap<String, u64> {
 
 /// The constants of the header, `NAME = VALUE` in its enums.
 pub fn enumerators(header: &str) -> BTreeMap<String, u64> {
-    let parts = header.split(|c: char| c == ',' || c == '{' || c == '}');
+    let parts = header.split([',', '{', '}']);
     parts
         .filter_map(|part| part.trim().split_once(" = "))
         .map(|(name, value)| (name.to_owned(), value.parse().expect("an enumerator is a number")))
