@@ -145,3 +145,46 @@ fn the_header_has_every_number() {
         wanted.into_iter().map(|(name, number)| (format!("PDL_{name}"), number)).collect();
     assert_eq!(enumerators(&without_comments(&text_of("include/pdl.h"))), wanted);
 }
+
+/// The rows of the document's tables that begin with a number and a name: `| 13 | `FIELD_FLAG_A` |`.
+fn rows_of_the_document() -> BTreeMap<String, u64> {
+    let document = text_of("docs/ROWS.md");
+    let cells = document.lines().filter_map(|line| {
+        let mut cells = line.strip_prefix("| ")?.split(" | ");
+        let number = cells.next()?.parse().ok()?;
+        let name = cells.next()?.strip_prefix('`')?.strip_suffix('`')?;
+        Some((name.to_owned(), number))
+    });
+    cells.collect()
+}
+
+#[test]
+fn the_document_has_every_word_table_and_refusal() {
+    let mut wanted = constants(&text_of(WORDS), "usize");
+    wanted.extend(constants(&text_of(NUMBERS), "u64"));
+    assert_eq!(rows_of_the_document(), wanted);
+    let document = text_of("docs/ROWS.md");
+    for (name, size) in constants(&text_of(NUMBERS), "usize") {
+        let said = [format!("`{name}` | {size} |"), format!("`{name}`, {size}")];
+        assert!(said.iter().any(|it| document.contains(it)), "{name} is not {size} there");
+    }
+    for entry in entries() {
+        assert!(document.contains(&format!("`{}`", entry.name)), "{} is not there", entry.name);
+    }
+}
+
+#[test]
+fn the_document_has_the_rules_by_number() {
+    let document = text_of("docs/ROWS.md");
+    let listed = document.split("```").nth(1).expect("the rules stand in a block");
+    let definition = text_of("crates/front/specs/Numbers.antt");
+    let (_, printed) = definition.split_once("\nprinted =\n").expect("the rules are listed");
+    let (printed, _) = printed.split_once("[]").expect("the list ends");
+    let rules = printed
+        .split('∷')
+        .map(|rule| rule.trim().replace('-', "_"))
+        .filter(|rule| !rule.is_empty());
+    let wanted: Vec<_> =
+        rules.enumerate().map(|(number, rule)| format!("{number} {rule}")).collect();
+    assert_eq!(listed.split(',').map(str::trim).collect::<Vec<_>>(), wanted);
+}

@@ -80,7 +80,9 @@ pub fn entries() -> Vec<Entry> {
     let folder = fs::read_dir(repository("crates/front/src")).expect("the crate front is there");
     let mut found = vec![];
     for file in folder {
-        let text = fs::read_to_string(file.unwrap().path()).unwrap();
+        let path = file.expect("the folder can be read").path();
+        let text =
+            fs::read_to_string(&path).unwrap_or_else(|error| panic!("{}: {error}", path.display()));
         found.extend(text.split("pub extern \"C\" fn ").skip(1).map(entry));
     }
     found
