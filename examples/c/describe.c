@@ -10,7 +10,7 @@
 
 #include "pdl.h"
 
-enum { TABLES = 5, LONGEST = 1048576 };
+enum { TABLES = 5 };
 
 static const size_t row_words[TABLES] = {PDL_DECLARATION_WORDS, PDL_FIELD_WORDS, PDL_TAG_WORDS, PDL_CONSTRAINT_WORDS,
                                          PDL_COMMENT_WORDS};
@@ -19,7 +19,7 @@ static const char *const field_kinds[] = {"", "checksum", "padding", "size", "co
                                           "fixed enum", "reserved", "array", "scalar", "typedef", "group"};
 
 /* One byte more than the port takes, so that it is the port that refuses a source that is too long. */
-static uint8_t source[LONGEST + 1];
+static uint8_t source[PDL_MAX_SOURCE + 1];
 static size_t source_length;
 static uint64_t *tables[TABLES];
 static uint64_t refusal[2], counts[TABLES], endianness[PDL_ENDIANNESS_WORDS];

@@ -1,5 +1,5 @@
-//! What this package and the C header repeat of the port's sources is what stands there: the entries with their parameters, the
-//! sizes of rows, the words by name, the numbers of tables and refusals. So are the tables of docs/ROWS.md.
+//! What this package, the C header and docs/ROWS.md repeat of the port's sources is what stands there: the entries with their
+//! parameters, the sizes of rows, the words by name, the numbers of tables and refusals.
 
 mod sources;
 
@@ -8,7 +8,7 @@ use std::fmt::Debug;
 
 use pdl_front::{
     ChunkKind, CommentKind, ConstraintKind, DeclarationKind, Endianness, FieldKind, RefusalKind,
-    Table, TagKind, Unconverted,
+    Table, TagKind, Unconverted, MAX_CHUNK_WIDTH, MAX_SOURCE,
 };
 use sources::{
     constants, entries, enumerators, in_one_line, text_of, without_comments, Crossing, Entry,
@@ -133,6 +133,8 @@ fn tables_and_refusals_have_the_numbers_of_the_port() {
 fn the_header_has_every_number() {
     let mut wanted = sizes_and_positions();
     wanted.extend(constants(&text_of(NUMBERS), "u64"));
+    wanted.insert("MAX_SOURCE".to_owned(), MAX_SOURCE as u64);
+    wanted.insert("MAX_CHUNK_WIDTH".to_owned(), MAX_CHUNK_WIDTH);
     wanted.extend(named("UNCONVERTED_", Unconverted::ALL, Unconverted::number));
     wanted.extend(named("ENDIANNESS_", Endianness::ALL, Endianness::number));
     wanted.extend(named("DECLARATION_KIND_", DeclarationKind::ALL, DeclarationKind::number));
