@@ -23,6 +23,9 @@
 extern "C" {
 #endif
 
+/* The longest source that is read, in bytes, and the widest chunk of bits or bytes, in bits. */
+enum { PDL_MAX_SOURCE = 1048576, PDL_MAX_CHUNK_WIDTH = 64 };
+
 /* Words in a row of each table, of the endianness with its place, and of the aligner's two tables. */
 enum {
     PDL_DECLARATION_WORDS = 17,
@@ -47,7 +50,7 @@ enum {
 /* The numbers of the refusals. Where nothing else is said, the place of a layout's refusal is the row of a field; that of a single
  * call of the aligner is 0. */
 enum {
-    PDL_TOO_LONG = 1,              /* the source has more than 1048576 bytes */
+    PDL_TOO_LONG = 1,              /* the source has more than PDL_MAX_SOURCE bytes */
     PDL_NOT_UTF8 = 2,              /* place: the length of the longest beginning that is UTF-8 */
     PDL_NO_MATCH = 3,              /* place: where the endianness line is missing, or neither a declaration nor the end follows */
     PDL_NOT_CONVERTED = 4,         /* place: the first byte of an integer; reason: see PDL_UNCONVERTED_EMPTY and on */
@@ -55,7 +58,7 @@ enum {
     PDL_NAME_OUTSIDE = 6,          /* a name lies outside its source; no entry below brings it */
     PDL_BYTES_WHILE_STAGED = 10,   /* bytes start while bits are staged that fill no whole byte */
     PDL_NOT_WHOLE_BYTES = 11,      /* a width of bytes is no multiple of 8 */
-    PDL_TOO_WIDE = 12,             /* more than 64 bits would stand in one chunk */
+    PDL_TOO_WIDE = 12,             /* more than PDL_MAX_CHUNK_WIDTH bits would stand in one chunk */
     PDL_TABLE_FULL = 13,           /* a lent table of the aligner is full */
     PDL_WIDTH_NOT_IN_SYNTAX = 14,  /* a field's width is not in the syntax, for another declaration has it */
     PDL_NO_SUCH_DECLARATION = 15,  /* no packet, struct or group; place: the index that was asked for */

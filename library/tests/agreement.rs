@@ -1,5 +1,5 @@
-//! What this package and the C header repeat of the port's sources is what stands there: the entries with their parameters, the
-//! sizes of rows, the words by name, the numbers of tables and refusals. So are the tables of docs/ROWS.md.
+//! What this package, the C header and docs/ROWS.md repeat of the port's sources is what stands there: the entries with their
+//! parameters, the sizes of rows, the words by name, the numbers of tables and refusals.
 
 mod sources;
 
@@ -8,7 +8,7 @@ use std::fmt::Debug;
 
 use pdl_front::{
     ChunkKind, CommentKind, ConstraintKind, DeclarationKind, Endianness, FieldKind, RefusalKind,
-    Table, TagKind, Unconverted,
+    Table, TagKind, Unconverted, MAX_CHUNK_WIDTH, MAX_SOURCE,
 };
 use sources::{
     constants, entries, enumerators, in_one_line, text_of, without_comments, Crossing, Entry,
@@ -133,6 +133,8 @@ fn tables_and_refusals_have_the_numbers_of_the_port() {
 fn the_header_has_every_number() {
     let mut wanted = sizes_and_positions();
     wanted.extend(constants(&text_of(NUMBERS), "u64"));
+    wanted.insert("MAX_SOURCE".to_owned(), MAX_SOURCE as u64);
+    wanted.insert("MAX_CHUNK_WIDTH".to_owned(), MAX_CHUNK_WIDTH);
     wanted.extend(named("UNCONVERTED_", Unconverted::ALL, Unconverted::number));
     wanted.extend(named("ENDIANNESS_", Endianness::ALL, Endianness::number));
     wanted.extend(named("DECLARATION_KIND_", DeclarationKind::ALL, DeclarationKind::number));
@@ -144,4 +146,47 @@ fn the_header_has_every_number() {
     let wanted: BTreeMap<_, _> =
         wanted.into_iter().map(|(name, number)| (format!("PDL_{name}"), number)).collect();
     assert_eq!(enumerators(&without_comments(&text_of("include/pdl.h"))), wanted);
+}
+
+/// The rows of the document's tables that begin with a number and a name: `| 13 | `FIELD_FLAG_A` |`.
+fn rows_of_the_document() -> BTreeMap<String, u64> {
+    let document = text_of("docs/ROWS.md");
+    let cells = document.lines().filter_map(|line| {
+        let mut cells = line.strip_prefix("| ")?.split(" | ");
+        let number = cells.next()?.parse().ok()?;
+        let name = cells.next()?.strip_prefix('`')?.strip_suffix('`')?;
+        Some((name.to_owned(), number))
+    });
+    cells.collect()
+}
+
+#[test]
+fn the_document_has_every_word_table_and_refusal() {
+    let mut wanted = constants(&text_of(WORDS), "usize");
+    wanted.extend(constants(&text_of(NUMBERS), "u64"));
+    assert_eq!(rows_of_the_document(), wanted);
+    let document = text_of("docs/ROWS.md");
+    for (name, size) in constants(&text_of(NUMBERS), "usize") {
+        let said = [format!("`{name}` | {size} |"), format!("`{name}`, {size}")];
+        assert!(said.iter().any(|it| document.contains(it)), "{name} is not {size} there");
+    }
+    for entry in entries() {
+        assert!(document.contains(&format!("`{}`", entry.name)), "{} is not there", entry.name);
+    }
+}
+
+#[test]
+fn the_document_has_the_rules_by_number() {
+    let document = text_of("docs/ROWS.md");
+    let listed = document.split("```").nth(1).expect("the rules stand in a block");
+    let definition = text_of("crates/front/specs/Numbers.antt");
+    let (_, printed) = definition.split_once("\nprinted =\n").expect("the rules are listed");
+    let (printed, _) = printed.split_once("[]").expect("the list ends");
+    let rules = printed
+        .split('∷')
+        .map(|rule| rule.trim().replace('-', "_"))
+        .filter(|rule| !rule.is_empty());
+    let wanted: Vec<_> =
+        rules.enumerate().map(|(number, rule)| format!("{number} {rule}")).collect();
+    assert_eq!(listed.split(',').map(str::trim).collect::<Vec<_>>(), wanted);
 }

@@ -2,7 +2,7 @@
 
 use pdl_front::{
     convert, read, read_into, rule_extent, valid_prefix, words, Aligner, Refusal, RefusalKind,
-    Table, Tables, Unconverted, MAX_SOURCE,
+    Table, Tables, Unconverted, MAX_CHUNK_WIDTH, MAX_SOURCE,
 };
 
 /// The number, the place and the reason.
@@ -94,8 +94,8 @@ fn an_aligner_goes_on_after_a_refusal() {
     aligner.add_bitfield(0, 0).unwrap();
     assert_eq!(aligner.align().map_err(parts), Err((16, 0, 0)));
     assert_eq!(aligner.add_bytes(1, 8).map_err(parts), Err((10, 0, 0)));
-    assert_eq!(aligner.add_bitfield(1, 65).map_err(parts), Err((12, 0, 0)));
-    aligner.add_bitfield(1, 64).unwrap();
+    assert_eq!(aligner.add_bitfield(1, MAX_CHUNK_WIDTH + 1).map_err(parts), Err((12, 0, 0)));
+    aligner.add_bitfield(1, MAX_CHUNK_WIDTH).unwrap();
     assert_eq!(aligner.add_bytes(2, 7).map_err(parts), Err((11, 0, 0)));
     assert_eq!(aligner.add_bytes(2, 72).map_err(parts), Err((12, 0, 0)));
     aligner.add_bytes(2, 64).unwrap();

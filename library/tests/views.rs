@@ -1,5 +1,7 @@
 //! The typed views of rows: every kind of row from a text that has it.
 
+use std::ops::RangeInclusive;
+
 use pdl_front::{
     read, CommentKind, ConstraintKind, DeclarationKind, Endianness, FieldDescription, FieldKind,
     Reading, Table, TagKind,
@@ -110,7 +112,7 @@ fn every_kind_of_tag() {
             (TagKind::Inner, Some(2), None, 0),
             (TagKind::Inner, Some(3), None, 0),
             (TagKind::Other, None, None, 0),
-            (TagKind::Range, None, Some(9..=4), 0),
+            (TagKind::Range, None, Some(RangeInclusive::new(9, 4)), 0),
         ];
         assert_eq!(said, wanted);
         let range = reading.tag(1).unwrap();

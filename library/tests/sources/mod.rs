@@ -52,7 +52,7 @@ pub fn constants(text: &str, wanted: &str) -> BTreeMap<String, u64> {
 
 /// The constants of the header, `NAME = VALUE` in its enums.
 pub fn enumerators(header: &str) -> BTreeMap<String, u64> {
-    let parts = header.split(|c: char| c == ',' || c == '{' || c == '}');
+    let parts = header.split([',', '{', '}']);
     parts
         .filter_map(|part| part.trim().split_once(" = "))
         .map(|(name, value)| (name.to_owned(), value.parse().expect("an enumerator is a number")))
@@ -80,7 +80,9 @@ pub fn entries() -> Vec<Entry> {
     let folder = fs::read_dir(repository("crates/front/src")).expect("the crate front is there");
     let mut found = vec![];
     for file in folder {
-        let text = fs::read_to_string(file.unwrap().path()).unwrap();
+        let path = file.expect("the folder can be read").path();
+        let text =
+            fs::read_to_string(&path).unwrap_or_else(|error| panic!("{}: {error}", path.display()));
         found.extend(text.split("pub extern \"C\" fn ").skip(1).map(entry));
     }
     found
