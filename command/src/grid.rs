@@ -77,7 +77,13 @@ fn put_line<'c>(page: &mut String, cells: impl Iterator<Item = (&'c str, Side, O
 }
 
 fn spaces(page: &mut String, count: usize) {
-    page.extend(std::iter::repeat(' ').take(count));
+    const SPACES: &str = "                                ";
+    let mut left = count;
+    while left > SPACES.len() {
+        page.push_str(SPACES);
+        left -= SPACES.len();
+    }
+    page.push_str(&SPACES[..left]);
 }
 
 #[cfg(test)]

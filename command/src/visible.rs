@@ -70,7 +70,10 @@ pub fn bytes(bytes: &[u8]) -> String {
 
 /// How many columns of a terminal a text takes whose characters are all visible.
 pub fn width(text: &str) -> usize {
-    text.chars().map(|c| c.width().unwrap_or(0)).sum()
+    match text.is_ascii() {
+        true => text.len(),
+        false => text.chars().map(|c| c.width().unwrap_or(0)).sum(),
+    }
 }
 
 /// A text in one line, with one space where there were blanks, cut where it is wider than so many columns.
