@@ -98,8 +98,12 @@ packet P (line 3): refused (14)
     width  5  _size_(y)
     dynamic   y: 8[]
     no bits   _padding_[9]
+    dynamic   c: 8 if a = 1
 ";
-    assert_eq!(refused("a: 3, _size_(y): 5, y: 8[], _padding_[9],\n\tx: E, z: 8"), wanted);
+    assert_eq!(
+        refused("a: 3, _size_(y): 5, y: 8[], _padding_[9], c: 8 if a = 1,\n\tx: E, z: 8"),
+        wanted
+    );
     let fixed = "the field `_fixed_` (line 4, column 1) is the tag `A` of `E`, whose width another declaration gives: enum E, line 2";
     assert_eq!(
         refused("_fixed_ = A: E"),
@@ -110,6 +114,14 @@ packet P (line 3): refused (14)
         refused("G { x = 1 }"),
         format!("packet P (line 3): refused (14)\n  {group}\n  nothing stands before it\n")
     );
+}
+
+#[test]
+fn the_first_of_two_declarations_is_named() {
+    let source = "little_endian_packets\nstruct A { x: B }\nenum B : 8 { C = 1 }\nstruct B {}";
+    assert!(run_on(&["layout"], source)
+        .out
+        .contains("another declaration gives: enum B, line 3\n"));
 }
 
 #[test]

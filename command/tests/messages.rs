@@ -120,6 +120,21 @@ fn a_long_line_is_cut_around_the_place() {
 }
 
 #[test]
+fn a_cut_splits_no_character() {
+    for shift in 0..4 {
+        let told = said(format!(
+            "big_endian_packets\n{:shift$}/*{}*/ x {}",
+            "",
+            "\u{1f39e}".repeat(40),
+            "\u{1f39e}".repeat(40)
+        ));
+        let line = told.lines().find(|line| line.starts_with("2 | ")).unwrap();
+        assert!(!line.contains('\\'), "{line}");
+        assert_eq!(line.matches("...").count(), 2, "{line}");
+    }
+}
+
+#[test]
 fn a_description_that_is_too_long() {
     let mut source = b"little_endian_packets\n".to_vec();
     source.resize(1_048_576, b' ');

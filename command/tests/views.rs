@@ -83,6 +83,20 @@ fn every_word_of_a_field_stands_in_its_column() {
 }
 
 #[test]
+fn every_word_of_a_tag_stands_in_its_column() {
+    let view = shown(&["tables"], little("enum E : 8 { A = 1, B = 2..9 { C = 3 }, D = .. }"));
+    let tags = table(&view, "Tags");
+    assert_eq!(
+        cells(tags[0]),
+        ["row", "in", "kind", "name", "value", "to", "tags inside", "place"]
+    );
+    assert_eq!(cells(tags[1]), ["0", "E", "value", "A", "1", "2:14 to 2:19"]);
+    assert_eq!(cells(tags[2]), ["1", "E", "range", "B", "2", "9", "1", "2:21 to 2:39"]);
+    assert_eq!(cells(tags[3]), ["2", "E", "inner", "C", "3", "2:32 to 2:37"]);
+    assert_eq!(cells(tags[4]), ["3", "E", "other", "D", "2:41 to 2:47"]);
+}
+
+#[test]
 fn lines_and_columns_count_from_one_and_in_characters() {
     let view = shown(&["tables"], "/* é日 */ big_endian_packets\n\n/* \u{1f39e} */ packet A {}");
     assert!(view.starts_with("standard input: big endian (line 1)\n"));
@@ -153,7 +167,7 @@ fn a_description_without_declarations() {
 
 #[test]
 fn names_that_are_asked_for() {
-    let source = little("// out\npacket A { /* in */ x: 8 if y = 1 } enum B : 8 { C = 1 } packet A {} packet D { z: 8 }");
+    let source = little("// out\npacket A { /* in */ x: 8 if y = 1 }/* behind */ enum B : 8 { C = 1 } packet A {} packet D { z: 8 }");
     let view = shown(&["tables", "--only", "A"], &source);
     let rows = |title| {
         table(&view, title).iter().skip(1).map(|line| cells(line)[0].to_owned()).collect::<Vec<_>>()
