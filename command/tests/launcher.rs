@@ -12,6 +12,7 @@ use std::os::unix::process::ExitStatusExt;
 use std::path::{Path, PathBuf};
 use std::process::{Child, Command, Stdio};
 use std::thread;
+use std::time::Duration;
 
 use running::{bytes_of, fed, Folder, Ran};
 
@@ -130,7 +131,7 @@ impl Checkout {
     /// Starts the launcher, which is held, and waits until it is: the process, and those that are held.
     fn started(&self) -> (Child, Vec<u32>) {
         let piped = Stdio::piped;
-        let child = self
+        let mut child = self
             .call(self.path("pdl"))
             .stdin(Stdio::null())
             .stdout(piped())
@@ -138,9 +139,7 @@ impl Checkout {
             .spawn()
             .unwrap();
         let running = self.top.join("running");
-        while !running.exists() {
-            thread::yield_now();
-        }
+        until("it is held", || running.exists() || child.try_wait().unwrap().is_some());
         let held = fs::read_to_string(running).unwrap();
         (child, held.split_whitespace().map(|word| word.parse().unwrap()).collect())
     }
@@ -154,6 +153,17 @@ impl Checkout {
             .unwrap();
         String::from_utf8(found.stdout).unwrap().lines().map(str::to_owned).collect()
     }
+}
+
+/// Waits until something is so. Where it does not come to be, the test fails and does not wait for ever.
+fn until(what: &str, mut is_so: impl FnMut() -> bool) {
+    for _ in 0..6000 {
+        if is_so() {
+            return;
+        }
+        thread::sleep(Duration::from_millis(10));
+    }
+    panic!("{what}: that has not come to be");
 }
 
 fn is_running(process: u32) -> bool {
@@ -394,9 +404,7 @@ fn an_interrupt_leaves_nothing_behind() {
         assert!(processes.iter().all(|process| is_running(*process)));
         signal(&child, name);
         assert_eq!(child.wait().unwrap().signal(), Some(number), "{held} {name}");
-        while processes.iter().any(|process| is_running(*process)) {
-            thread::yield_now();
-        }
+        until("all have ended", || !processes.iter().any(|process| is_running(*process)));
         let files = it.files("target");
         assert!(
             !files.iter().any(|file| file.ends_with(".new")
