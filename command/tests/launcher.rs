@@ -286,6 +286,26 @@ fn changed_sources_are_built_again() {
 }
 
 #[test]
+fn sources_that_change_while_they_are_built_are_built_again() {
+    for (held, file, again) in [
+        ("rt", "crates/front/src/lib.rt", &["rt", "cargo"][..]),
+        ("cargo", "command/src/main.rs", &["cargo"]),
+    ] {
+        let it = Checkout::new();
+        it.hold(held);
+        let (child, _) = it.started();
+        it.top.write(Path::new("it").join(file), "changed");
+        it.release(held);
+        assert_eq!(Ran::from(child.wait_with_output().unwrap()).status, 7);
+        it.calls();
+        assert!(it.made_of(&it.run()).contains("changed"));
+        assert_eq!(it.calls(), again);
+        it.run();
+        assert_eq!(it.calls(), [] as [&str; 0]);
+    }
+}
+
+#[test]
 fn new_times_alone_are_no_change() {
     let it = Checkout::new();
     it.run();
