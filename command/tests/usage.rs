@@ -122,15 +122,11 @@ fn no_more_is_read_than_is_needed() {
 fn a_reader_who_goes_away() {
     for view in ["tables", "layout"] {
         let mut command = command();
-        let file = running::repository("examples/scanner.pdl");
-        let child = command
-            .arg(view)
-            .arg(file)
-            .stdin(Stdio::null())
-            .stdout(Stdio::piped())
-            .stderr(Stdio::piped());
-        let mut child = child.spawn().unwrap();
+        command.arg(view).stdin(Stdio::piped()).stdout(Stdio::piped()).stderr(Stdio::piped());
+        let mut child = command.spawn().unwrap();
+        // The reader is gone before there is anything to write.
         drop(child.stdout.take());
+        child.stdin.take().unwrap().write_all(&bytes_of("examples/scanner.pdl")).unwrap();
         let output = child.wait_with_output().unwrap();
         assert_eq!(output.status.code(), Some(i32::from(view == "layout")));
         assert_eq!(String::from_utf8_lossy(&output.stderr), "");
