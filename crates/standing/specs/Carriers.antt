@@ -123,5 +123,5 @@ added-bytes p q b m z h = record {
         let i : o + m .bytes ≡ length q + 1 + (o - length p) = omega (arith, h .bytes) in
         let j : o ≡ length p + (o - length p) = omega arith in
         ap (λ (k : ℕ). drop k (q ++ 10 ∷ b)) i ∙ sym (drop-drop (o - length p) (length q + 1) (q ++ 10 ∷ b))
-            ∙ ap (drop (o - length p)) (drop-append-add q (10 ∷ b) 1)
+        ∙ ap (drop (o - length p)) (drop-append-add q (10 ∷ b) 1)
         ∙ sym (ap (λ (k : ℕ). drop k (p ++ b)) j ∙ sym (drop-drop (o - length p) (length p) (p ++ b)) ∙ ap (drop (o - length p)) (drop-append-seam p b))
