@@ -10,6 +10,7 @@ use Rattle.meaning.specs.declared.SourceLocation.{SourceLocation}
 use Rattle.meaning.specs.Forest.{Forest, nil, tree}
 use Rattle.meaning.specs.Places.{at, placeAt}
 use Rattle.meaning.specs.Tables.{Table, Item, int, row}
+use Rattle.meaning.specs.Rows.{row-kind}
 use Rattle.grammar.specs.Bounds.{Held}
 use Rattle.meaning.specs.Moving.{Move, Sort, offset, line, column, name, first, condition, unless-none, unless-empty, moved-word, Moving, _moves-as_, moving, moved-words, moved-row, breaks}
 use Rattle.standing.specs.Joinings.{movedBy}
@@ -50,7 +51,7 @@ words-still ws ((i moves-as s) ∷ ms) =
 
 row-still : (t : Table) (ws : List ℕ) → moved-row still t ws ≡ ws
 unfolding moved-row
-row-still t ws = words-still ws (moving t (getD ws 0 0))
+row-still t ws = words-still ws (moving t (getD ws row-kind 0))
 
 item-still : (x : Item) → moved-item still x ≡ x
 item-still (int p r) = ap (λ (q : ℕ). int q r) here
