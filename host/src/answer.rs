@@ -1,7 +1,7 @@
 //! The whole answer to a source, refusals 1 to 5 in 01's order, and what it leaves in tables.
 
 use crate::parser::{PDLParser, Rule};
-use crate::reading::{Reading, Refusal, ROW_WORDS};
+use crate::reading::{Reading, Refusal, ENDIANNESS_WORDS, ROW_WORDS};
 use crate::{check_ast, place, rows};
 use pest::Parser;
 
@@ -57,7 +57,7 @@ pub fn fit(reading: Reading, rows: [usize; 5]) -> Result<Reading, Refusal> {
 pub struct Words {
     pub refusal: Refusal,
     pub counts: [u64; 5],
-    pub endianness: [u64; 7],
+    pub endianness: [u64; ENDIANNESS_WORDS],
 }
 
 /// Reads a source into lent tables, as the library does.

@@ -12,6 +12,9 @@ pub const COMMENTS: usize = 4;
 /// Words in a row of each table.
 pub const ROW_WORDS: [usize; 5] = [17, 20, 12, 12, 7];
 
+/// Words of the endianness and its place.
+pub const ENDIANNESS_WORDS: usize = 7;
+
 /// Words of every row: its kind, and the offsets of its start and its end. The line and the column
 /// stand behind each offset.
 pub const KIND: usize = 0;
@@ -57,7 +60,7 @@ impl Refusal {
 #[derive(Clone, Debug, PartialEq, Eq)]
 pub struct Reading {
     /// 1 little or 2 big, then the place of the line.
-    pub endianness: [u64; 7],
+    pub endianness: [u64; ENDIANNESS_WORDS],
     /// The words of each table, row after row.
     pub tables: [Vec<u64>; 5],
 }

@@ -6,7 +6,8 @@ use crate::nodes::{
 };
 use crate::parser::Rule;
 use crate::reading::{
-    Reading, Refusal, COMMENTS, CONSTRAINTS, DECLARATIONS, FIELDS, ROW_WORDS, TAGS,
+    Reading, Refusal, COMMENTS, CONSTRAINTS, DECLARATIONS, ENDIANNESS_WORDS, FIELDS, ROW_WORDS,
+    TAGS,
 };
 
 /// The reading of a matched file, or refusal 4.
@@ -20,7 +21,7 @@ pub fn rows(root: Node) -> Result<Reading, Refusal> {
             walk.comment(&comment);
         }
     }
-    let mut endianness = [0; 7];
+    let mut endianness = [0; ENDIANNESS_WORDS];
     for node in children(&root) {
         match node.as_rule() {
             Rule::endianness_declaration => endianness = walk.endianness(&node),
@@ -52,9 +53,9 @@ struct Walk {
 }
 
 impl Walk {
-    fn endianness(&self, node: &Node) -> [u64; 7] {
+    fn endianness(&self, node: &Node) -> [u64; ENDIANNESS_WORDS] {
         let value = if node.as_str().starts_with("little") { 1 } else { 2 };
-        let mut words = [value; 7];
+        let mut words = [value; ENDIANNESS_WORDS];
         words[1..].copy_from_slice(&self.place(node));
         words
     }

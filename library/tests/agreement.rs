@@ -94,9 +94,9 @@ fn the_port_has_entries() {
 
 #[test]
 fn the_declarations_are_those_of_the_port() {
-    let code = text_of("library/src/entries.rs");
+    let code = text_of("library/src/declared.rs");
     let (_, block) = code.split_once("extern \"C\" {").expect("the entries are declared");
-    let (block, _) = block.split_once("\n    }\n").expect("the declarations end");
+    let (block, _) = block.split_once("\n}\n").expect("the declarations end");
     let found: BTreeSet<_> = block.split("pub fn ").skip(1).map(in_one_line).collect();
     let declared = |it: &Entry| format!("{}({}) -> {};", it.name, joined(it, in_rust), it.answer);
     assert_eq!(found, entries().iter().map(declared).collect());

@@ -2,13 +2,13 @@
 
 use super::entries::pdl_read;
 use crate::answer::Words;
-use crate::reading::{Reading, Refusal, ROW_WORDS};
+use crate::reading::{Reading, Refusal, ENDIANNESS_WORDS, ROW_WORDS};
 
 /// Reads a source into lent tables, and answers the words beside them.
 pub fn read(source: &[u8], tables: [&mut [u64]; 5]) -> Words {
     let mut refusal = [u64::MAX; 2];
     let mut counts = [u64::MAX; 5];
-    let mut endianness = [u64::MAX; 7];
+    let mut endianness = [u64::MAX; ENDIANNESS_WORDS];
     let [declarations, fields, tags, constraints, comments] = tables;
     // SAFETY: the entry reads the bytes of the source, reads and writes the words of the five
     // tables and writes the three arrays, and no more.
