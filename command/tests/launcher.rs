@@ -10,11 +10,11 @@ use std::io::{BufRead, BufReader, Read};
 use std::os::unix::fs::{symlink, MetadataExt, PermissionsExt};
 use std::os::unix::process::ExitStatusExt;
 use std::path::{Path, PathBuf};
-use std::process::{Child, Command, Stdio};
+use std::process::{Child, ChildStderr, Command, Stdio};
 use std::thread;
 use std::time::Duration;
 
-use running::{bytes_of, fed, Folder, Ran};
+use running::{bytes_of, fed, in_locales, Folder, Ran};
 
 /// Tells of its call. Where a file `hold` is there it waits until that is gone, with a process of its own beside it.
 const HELD: &str = r#"
@@ -31,6 +31,7 @@ tell() {
 "#;
 
 const RT: &str = r#"
+[ "$*" != version ] || { echo "kit 1"; exit; }
 [ "$*" = "staticlib front" ] || exit 9
 echo "rt: meaning proved (1 s)"
 echo half >target/staticlib/libfront.a
@@ -68,7 +69,7 @@ impl Checkout {
         for file in
             ["pdl", "setup/records", "setup/build", "setup/packages", "setup/port", "command/setup"]
         {
-            it.script(file, &bytes_of(file));
+            it.script(&format!("it/{file}"), &bytes_of(file));
         }
         it.top.write("it/crates.txt", "meaning:\nfront: meaning io\nother: meaning\n");
         it.top.write("it/crates/front/src/lib.rt", "port 1");
@@ -77,16 +78,26 @@ impl Checkout {
         it.top.write("it/command/Cargo.toml", "rust-version = \"1.63\"\n");
         it.top.write("it/command/src/main.rs", "command 1");
         it.top.write("it/.cargo/config.toml", "");
-        for (name, body) in [("rt", RT), ("cargo", CARGO)] {
-            let path =
-                it.top.write(Path::new("bin").join(name), format!("#!/bin/sh\n{HELD}{body}"));
-            fs::set_permissions(path, fs::Permissions::from_mode(0o755)).unwrap();
-        }
+        it.tool("bin/rt", RT);
+        it.tool("bin/cargo", CARGO);
         it
     }
 
+    /// A checkout in which the command was built.
+    fn built() -> Checkout {
+        let it = Checkout::new();
+        it.run();
+        it.calls();
+        it
+    }
+
+    /// Writes a stub of a tool.
+    fn tool(&self, file: &str, body: &str) {
+        self.script(file, format!("#!/bin/sh\n{HELD}{body}").as_bytes());
+    }
+
     fn script(&self, file: &str, bytes: &[u8]) {
-        let path = self.top.write(Path::new("it").join(file), bytes);
+        let path = self.top.write(file, bytes);
         fs::set_permissions(path, fs::Permissions::from_mode(0o755)).unwrap();
     }
 
@@ -104,6 +115,13 @@ impl Checkout {
 
     fn run(&self) -> Ran {
         fed(self.call(self.path("pdl")), b"")
+    }
+
+    /// Runs the launcher, which cannot build: what it says.
+    fn refused(&self) -> String {
+        let ran = self.run();
+        assert_eq!((ran.status, ran.out.as_str()), (2, ""));
+        ran.err
     }
 
     /// What was called since this was asked last.
@@ -128,20 +146,29 @@ impl Checkout {
         let _ = fs::remove_file(self.top.join("running"));
     }
 
+    /// Starts the launcher, with nothing on its standard input.
+    fn begun(&self) -> Child {
+        let mut call = self.call(self.path("pdl"));
+        call.stdin(Stdio::null()).stdout(Stdio::piped()).stderr(Stdio::piped()).spawn().unwrap()
+    }
+
     /// Starts the launcher, which is held, and waits until it is: the process, and those that are held.
     fn started(&self) -> (Child, Vec<u32>) {
-        let piped = Stdio::piped;
-        let mut child = self
-            .call(self.path("pdl"))
-            .stdin(Stdio::null())
-            .stdout(piped())
-            .stderr(piped())
-            .spawn()
-            .unwrap();
+        let mut child = self.begun();
         let running = self.top.join("running");
         until("it is held", || running.exists() || child.try_wait().unwrap().is_some());
         let held = fs::read_to_string(running).unwrap();
         (child, held.split_whitespace().map(|word| word.parse().unwrap()).collect())
+    }
+
+    /// Starts the launcher while another builds, and waits until it says that it waits: the process, and what else it will say.
+    fn waiting(&self) -> (Child, BufReader<ChildStderr>) {
+        let mut child = self.begun();
+        let mut said = BufReader::new(child.stderr.take().unwrap());
+        let mut line = String::new();
+        said.read_line(&mut line).unwrap();
+        assert_eq!(line, "pdl: waiting for another who builds it\n");
+        (child, said)
     }
 
     /// Every file below a folder of the checkout.
@@ -212,9 +239,7 @@ fn arguments_input_and_status_are_handed_on() {
 
 #[test]
 fn it_can_be_called_from_anywhere() {
-    let it = Checkout::new();
-    it.run();
-    it.calls();
+    let it = Checkout::built();
     symlink(it.path("pdl"), it.top.join("link")).unwrap();
     symlink("link", it.top.join("second link")).unwrap();
     fs::create_dir_all(it.top.join("elsewhere/it")).unwrap();
@@ -264,9 +289,7 @@ fn the_environment_has_no_part_in_what_is_built() {
 
 #[test]
 fn changed_sources_are_built_again() {
-    let it = Checkout::new();
-    it.run();
-    it.calls();
+    let it = Checkout::built();
     let cases: [(&str, &str, &str, &[&str]); 6] = [
         ("command/src/main.rs", "command 2", "command 2 port 1", &["cargo"]),
         ("crates/front/src/lib.rt", "port 2", "command 2 port 2", &["rt", "cargo"]),
@@ -307,9 +330,7 @@ fn sources_that_change_while_they_are_built_are_built_again() {
 
 #[test]
 fn new_times_alone_are_no_change() {
-    let it = Checkout::new();
-    it.run();
-    it.calls();
+    let it = Checkout::built();
     let main = it.path("command/src/main.rs");
     let touched = Command::new("touch").args(["-d", "2001-01-01"]).arg(&main).status().unwrap();
     assert!(touched.success());
@@ -330,9 +351,7 @@ fn new_times_alone_are_no_change() {
 
 #[test]
 fn what_is_removed_is_built_again() {
-    let it = Checkout::new();
-    it.run();
-    it.calls();
+    let it = Checkout::built();
     let removed: [(&str, &[&str]); 5] = [
         ("target/bin", &[]),
         ("target/command/pdl", &["cargo"]),
@@ -361,9 +380,7 @@ fn run_as_another(it: &Checkout) -> Ran {
 
 #[test]
 fn a_checkout_that_cannot_be_written() {
-    let it = Checkout::new();
-    it.run();
-    it.calls();
+    let it = Checkout::built();
     // A copy has other times, and the same contents.
     let copied =
         Command::new("cp").arg("-r").arg(it.path("")).arg(it.top.join("copy")).status().unwrap();
@@ -377,8 +394,7 @@ fn a_checkout_that_cannot_be_written() {
 
 #[test]
 fn a_changed_checkout_that_cannot_be_written() {
-    let it = Checkout::new();
-    it.run();
+    let it = Checkout::built();
     it.top.write("it/command/src/main.rs", "command 2");
     let ran = run_as_another(&it);
     assert_eq!((ran.status, ran.out.as_str()), (2, ""));
@@ -394,17 +410,7 @@ fn two_first_runs_at_once() {
     let it = Checkout::new();
     it.hold("rt");
     let (first, _) = it.started();
-    let piped = Stdio::piped;
-    let mut second = it
-        .call(it.path("pdl"))
-        .stdin(Stdio::null())
-        .stdout(piped())
-        .stderr(piped())
-        .spawn()
-        .unwrap();
-    let mut said = String::new();
-    BufReader::new(second.stderr.take().unwrap()).read_line(&mut said).unwrap();
-    assert_eq!(said, "pdl: waiting for another who builds it\n");
+    let (second, _said) = it.waiting();
     it.release("rt");
     for child in [first, second] {
         let ran = Ran::from(child.wait_with_output().unwrap());
@@ -444,16 +450,7 @@ fn an_interrupt_while_another_builds() {
     let it = Checkout::new();
     it.hold("rt");
     let (first, _) = it.started();
-    let piped = Stdio::piped;
-    let mut second = it
-        .call(it.path("pdl"))
-        .stdin(Stdio::null())
-        .stdout(piped())
-        .stderr(piped())
-        .spawn()
-        .unwrap();
-    let mut said = BufReader::new(second.stderr.take().unwrap());
-    said.read_line(&mut String::new()).unwrap();
+    let (mut second, mut said) = it.waiting();
     signal(&second, "INT");
     assert_eq!(second.wait().unwrap().signal(), Some(2));
     let mut rest = String::new();
@@ -467,13 +464,8 @@ fn an_interrupt_while_another_builds() {
 fn a_build_that_fails_is_tried_again() {
     let it = Checkout::new();
     it.top.write("fail", "");
-    let ran = it.run();
-    assert_eq!((ran.status, ran.out.as_str()), (2, ""));
-    assert!(
-        ran.err.contains("\nrt: front NOT PROVED\npdl: the port could not be proved;"),
-        "{}",
-        ran.err
-    );
+    let said = it.refused();
+    assert!(said.contains("\nrt: front NOT PROVED\npdl: the port could not be proved;"), "{said}");
     assert_eq!(it.calls(), ["rt"]);
     fs::remove_file(it.top.join("fail")).unwrap();
     assert_eq!(it.made_of(&it.run()), "command 1 port 1");
@@ -483,18 +475,64 @@ fn a_build_that_fails_is_tried_again() {
 fn tools_that_are_missing() {
     let it = Checkout::new();
     fs::remove_file(it.top.join("bin/rt")).unwrap();
-    let ran = it.run();
-    assert_eq!((ran.status, ran.out.as_str()), (2, ""));
-    assert!(
-        ran.err.ends_with("the Rattle toolchain is not here: no command 'rt'\n"),
-        "{}",
-        ran.err
-    );
-    let it = Checkout::new();
-    it.run();
+    let said = it.refused();
+    assert!(said.ends_with("the Rattle toolchain is not here: no command 'rt'\n"), "{said}");
+    let it = Checkout::built();
     fs::remove_file(it.top.join("bin/rt")).unwrap();
     it.top.write("it/command/src/main.rs", "command 2");
-    assert_eq!(it.made_of(&it.run()), "command 2 port 1");
+    for calls in [&["cargo"][..], &[]] {
+        assert_eq!(it.made_of(&it.run()), "command 2 port 1");
+        assert_eq!(it.calls(), calls);
+    }
+}
+
+#[test]
+fn a_cargo_that_is_too_old() {
+    let it = Checkout::new();
+    it.tool("bin/cargo", &CARGO.replace("cargo 1.99.0", "cargo 1.62.1 (a748cf5a3 2022-06-08)"));
+    let said = it.refused();
+    let wanted = "setup/packages: cargo is 1.62.1; 1.63 or newer is needed. rustup brings it.\n";
+    assert!(said.ends_with(wanted), "{said}");
+    assert_eq!(it.calls(), ["rt"]);
+}
+
+#[test]
+fn another_toolchain_proves_the_port_again() {
+    let it = Checkout::built();
+    // One that calls itself the same is the same, wherever it stands.
+    it.tool("bin/rt", &format!("{RT}# more"));
+    it.run();
+    fs::remove_file(it.top.join("bin/rt")).unwrap();
+    it.run();
+    it.tool("other tools/rt", RT);
+    let with_others = |it: &Checkout| {
+        let mut call = it.call(it.path("pdl"));
+        let [bin, others] = ["bin", "other tools"].map(|folder| it.top.join(folder));
+        call.env("PATH", format!("{}:{}:/usr/bin:/bin", bin.display(), others.display()));
+        it.made_of(&fed(call, b""))
+    };
+    assert_eq!(with_others(&it), "command 1 port 1");
+    assert_eq!(it.calls(), [] as [&str; 0]);
+    it.tool("other tools/rt", &RT.replace("kit 1", "kit 2"));
+    for calls in [&["rt", "cargo"][..], &[]] {
+        assert_eq!(with_others(&it), "command 1 port 1");
+        assert_eq!(it.calls(), calls);
+    }
+}
+
+#[test]
+fn every_locale_builds_the_same() {
+    in_locales(|variables| {
+        let it = Checkout::new();
+        for calls in [&["rt", "cargo"][..], &[]] {
+            let mut call = it.call(it.path("pdl"));
+            call.envs(variables.iter().cloned());
+            let ran = fed(call, b"");
+            assert_eq!(it.made_of(&ran), "command 1 port 1", "{variables:?}");
+            assert_eq!(ran.err.contains("2 of 2 crates"), !calls.is_empty(), "{}", ran.err);
+            assert_eq!(it.calls(), calls, "{variables:?}");
+        }
+    });
 }
 
 #[test]

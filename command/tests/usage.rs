@@ -7,7 +7,7 @@ use std::io::{Read, Write};
 use std::os::unix::ffi::OsStrExt;
 use std::process::{Command, Stdio};
 
-use running::{bytes_of, command, fed, run, run_on, shown, Folder};
+use running::{bytes_of, command, fed, in_locales, run, run_on, shown, Folder};
 
 const SOURCE: &str = "little_endian_packets\npacket A { x: 8 }";
 
@@ -151,17 +151,17 @@ fn every_locale_has_the_same_output() {
     let source = bytes_of("host/src/cases/constructs.pdl");
     let wanted =
         [run_on(&["tables"], &source), run_on(&["layout"], &source), run_on(&["tables"], "日 x")];
-    for locale in ["C", "POSIX", "C.UTF-8", "tr_TR.UTF-8", "de_DE.ISO-8859-1"] {
+    in_locales(|variables| {
         let run = |view: &str, source: &[u8]| {
             let mut command = command();
-            command.arg(view).env("LC_ALL", locale).env("LANG", locale);
+            command.arg(view).envs(variables.iter().cloned());
             fed(command, source)
         };
         assert_eq!(
             [run("tables", &source), run("layout", &source), run("tables", "日 x".as_bytes())],
             wanted
         );
-    }
+    });
 }
 
 /// Runs the command on a terminal, with this beside its environment: all that the terminal gets.

@@ -111,6 +111,22 @@ impl Drop for Folder {
     }
 }
 
+/// Tries something with the variables of one locale after the other. The Turkish one, whose letters i are others, is made for it
+/// where the machine has Debian's package `locales`; where it has not, its name alone is tried, as with the last.
+pub fn in_locales(tried: impl Fn(&[(&str, PathBuf)])) {
+    let folder = Folder::new();
+    let made = folder.join("tr_TR.UTF-8");
+    let _ = Command::new("localedef").args(["-i", "tr_TR", "-f", "UTF-8"]).arg(made).output();
+    for locale in ["C", "POSIX", "C.UTF-8", "tr_TR.UTF-8", "de_DE.ISO-8859-1"] {
+        let mut variables = vec![("LC_ALL", locale.into()), ("LANG", locale.into())];
+        // Where this is set, no other locale of the machine is found.
+        if locale.starts_with("tr_") {
+            variables.push(("LOCPATH", folder.0.clone()));
+        }
+        tried(&variables);
+    }
+}
+
 /// Holds a text against a stored file. With PDL_STORE in the environment it is stored instead.
 pub fn held_against(text: &str, stored: &str) {
     if env::var_os("PDL_STORE").is_some() {
