@@ -1,5 +1,7 @@
 //! Cells in columns that are as wide as they have to be.
 
+use std::fmt::{Display, Write};
+
 use crate::visible;
 
 /// On which side of its column a cell stands.
@@ -11,67 +13,77 @@ pub enum Side {
 
 /// A table of cells below their heads.
 pub struct Grid {
-    columns: Vec<(&'static str, Side)>,
-    rows: Vec<Vec<String>>,
+    columns: Vec<Column>,
+    /// The texts of all cells, row by row, one directly behind the other.
+    text: String,
+    /// Where each cell ends in the text, and how wide it is.
+    cells: Vec<(usize, usize)>,
+}
+
+struct Column {
+    head: &'static str,
+    side: Side,
+    /// How wide its widest cell is.
+    widest: usize,
 }
 
 impl Grid {
     /// A table without rows. A head that starts with `>` has its column on the right.
     pub fn new(heads: &[&'static str]) -> Grid {
         let column = |head: &&'static str| match head.strip_prefix('>') {
-            Some(head) => (head, Side::Right),
-            None => (*head, Side::Left),
+            Some(head) => Column { head, side: Side::Right, widest: 0 },
+            None => Column { head, side: Side::Left, widest: 0 },
         };
-        Grid { columns: heads.iter().map(column).collect(), rows: vec![] }
+        Grid { columns: heads.iter().map(column).collect(), text: String::new(), cells: vec![] }
     }
 
     /// Adds a row, which has a cell for each column.
-    pub fn add<const CELLS: usize>(&mut self, cells: [String; CELLS]) {
+    pub fn add<const CELLS: usize>(&mut self, cells: [&dyn Display; CELLS]) {
         assert_eq!(CELLS, self.columns.len());
-        self.rows.push(cells.into());
+        for (column, cell) in self.columns.iter_mut().zip(cells) {
+            let start = self.text.len();
+            write!(self.text, "{cell}").expect("a string takes all");
+            let width = visible::width(&self.text[start..]);
+            column.widest = column.widest.max(width);
+            self.cells.push((self.text.len(), width));
+        }
     }
 
     /// Puts the lines of the table behind a text. A column that is empty in every row is left out.
     pub fn put(&self, page: &mut String) {
-        if self.rows.is_empty() {
+        if self.cells.is_empty() {
             page.push_str("  none\n");
             return;
         }
-        let widths: Vec<_> = (0..self.columns.len()).map(|column| self.width(column)).collect();
-        put_line(
-            page,
-            self.columns.iter().zip(&widths).map(|((head, side), width)| (*head, *side, *width)),
-        );
-        for row in &self.rows {
-            let sides = self.columns.iter().map(|(_, side)| *side);
-            put_line(
-                page,
-                row.iter()
-                    .zip(sides)
-                    .zip(&widths)
-                    .map(|((cell, side), width)| (cell.as_str(), side, *width)),
-            );
+        for column in &self.columns {
+            put_cell(page, column, column.head, visible::width(column.head));
         }
-    }
-
-    /// How wide a column is, or nothing where no row has anything in it.
-    fn width(&self, column: usize) -> Option<usize> {
-        let widest = self.rows.iter().map(|row| visible::width(&row[column])).max().unwrap_or(0);
-        (widest > 0).then(|| widest.max(visible::width(self.columns[column].0)))
+        end_line(page);
+        let mut start = 0;
+        for row in self.cells.chunks(self.columns.len()) {
+            for (column, (end, width)) in self.columns.iter().zip(row) {
+                put_cell(page, column, &self.text[start..*end], *width);
+                start = *end;
+            }
+            end_line(page);
+        }
     }
 }
 
-/// Puts one line behind a text, without spaces at its end.
-fn put_line<'c>(page: &mut String, cells: impl Iterator<Item = (&'c str, Side, Option<usize>)>) {
-    for (cell, side, width) in cells {
-        if let Some(width) = width {
-            let free = width - visible::width(cell);
-            let (left, right) = if side == Side::Left { (0, free) } else { (free, 0) };
-            spaces(page, 2 + left);
-            page.push_str(cell);
-            spaces(page, right);
-        }
+/// Puts a cell of this width behind a text, unless its column is left out.
+fn put_cell(page: &mut String, column: &Column, cell: &str, width: usize) {
+    if column.widest == 0 {
+        return;
     }
+    let free = column.widest.max(visible::width(column.head)) - width;
+    let (left, right) = if column.side == Side::Left { (0, free) } else { (free, 0) };
+    spaces(page, 2 + left);
+    page.push_str(cell);
+    spaces(page, right);
+}
+
+/// Ends a line, without spaces at its end.
+fn end_line(page: &mut String) {
     page.truncate(page.trim_end_matches(' ').len());
     page.push('\n');
 }
@@ -93,9 +105,9 @@ mod tests {
     #[test]
     fn wide_characters_line_up() {
         let mut grid = Grid::new(&[">n", "empty", "text", "end"]);
-        grid.add(["9", "", "日本", "a"].map(str::to_owned));
-        grid.add(["10", "", "e\u{301}", "b"].map(str::to_owned));
-        grid.add(["11", "", "", ""].map(str::to_owned));
+        grid.add([&9, &"", &"日本", &"a"]);
+        grid.add([&10, &"", &"e\u{301}", &"b"]);
+        grid.add([&11, &"", &"", &""]);
         let mut page = String::new();
         grid.put(&mut page);
         assert_eq!(page, "   n  text  end\n   9  日本  a\n  10  e\u{301}     b\n  11\n");

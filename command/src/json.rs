@@ -32,48 +32,49 @@ fn refused(refusal: &Refusal) -> Value {
 /// The document of a reading's tables.
 pub fn tables(reading: &Reading, only: &Selection) -> Page {
     let asked = |span: Span| only.is_all() || only.has_row_of(&owner(reading, span.start.offset));
-    let tables = [
-        (
-            "declarations",
-            rows(reading.declarations().filter(|it| only.has(it)), |it| declaration(reading, it)),
-        ),
-        ("fields", rows(reading.fields().filter(|it| asked(it.span())), |it| field(reading, it))),
-        ("tags", rows(reading.tags().filter(|it| asked(it.span())), |it| tag(reading, it))),
-        (
-            "constraints",
-            rows(reading.constraints().filter(|it| asked(it.span())), |it| constraint(reading, it)),
-        ),
-        ("comments", rows(reading.comments().filter(|it| asked(it.span())), comment)),
-    ];
-    Page { text: document(reading, &tables), refused: false }
+    let declarations = reading.declarations().filter(|it| only.has(it));
+    let fields = reading.fields().filter(|it| asked(it.span()));
+    let tags = reading.tags().filter(|it| asked(it.span()));
+    let constraints = reading.constraints().filter(|it| asked(it.span()));
+    let comments = reading.comments().filter(|it| asked(it.span()));
+    let mut text = opened(reading);
+    put(&mut text, "declarations", declarations.map(|it| declaration(reading, &it)));
+    put(&mut text, "fields", fields.map(|it| field(reading, &it)));
+    put(&mut text, "tags", tags.map(|it| tag(reading, &it)));
+    put(&mut text, "constraints", constraints.map(|it| constraint(reading, &it)));
+    put(&mut text, "comments", comments.map(|it| comment(&it)));
+    Page { text: text + "}\n", refused: false }
 }
 
 /// The document of the layouts that are asked for.
 pub fn layouts(reading: &Reading, only: &Selection) -> Page {
-    let mut page = Page::default();
-    let mut layouts = vec![];
-    for (declaration, outcome) in only.layouts(reading) {
-        page.refused |= outcome.is_err();
-        layouts.push(layout(reading, &declaration, &outcome));
-    }
-    page.text = document(reading, &[("layouts", layouts)]);
-    page
+    let mut refused = false;
+    let layouts = only.layouts(reading).map(|(declaration, outcome)| {
+        refused |= outcome.is_err();
+        layout(reading, &declaration, &outcome)
+    });
+    let mut text = opened(reading);
+    put(&mut text, "layouts", layouts);
+    Page { text: text + "}\n", refused }
 }
 
-/// A document with the endianness and these lists, a row to a line.
-fn document(reading: &Reading, lists: &[(&str, Vec<Value>)]) -> String {
+/// The beginning of a document: its endianness.
+fn opened(reading: &Reading) -> String {
     let order = naming::endianness(reading.endianness());
     let endianness = json!({ "kind": order, "place": span(reading.endianness_span()) });
-    let mut text = format!("{{\"endianness\":{endianness}");
-    for (name, rows) in lists {
-        let lines: Vec<_> = rows.iter().map(|row| format!("\n{row}")).collect();
-        text.push_str(&format!(",\n\"{name}\":[{}]", lines.join(",")));
-    }
-    text + "}\n"
+    format!("{{\"endianness\":{endianness}")
 }
 
-fn rows<T>(rows: impl Iterator<Item = T>, object: impl Fn(&T) -> Value) -> Vec<Value> {
-    rows.map(|row| object(&row)).collect()
+/// Puts a list behind a document, a row to a line.
+fn put(text: &mut String, name: &str, rows: impl Iterator<Item = Value>) {
+    text.push_str(&format!(",\n\"{name}\":["));
+    let mut before = "\n";
+    for row in rows {
+        text.push_str(before);
+        text.push_str(&serde_json::to_string(&row).expect("a value can be written"));
+        before = ",\n";
+    }
+    text.push(']');
 }
 
 fn place(place: Place) -> Value {

@@ -2,7 +2,7 @@
 
 use std::fmt::Write;
 
-use pdl_front::{Chunk, ChunkKind, Declaration, Layout, Placed, Reading, Refusal};
+use pdl_front::{Chunk, ChunkKind, Declaration, Field, Layout, Placed, Reading, Refusal};
 
 use crate::naming::{self, many};
 use crate::page::Page;
@@ -113,8 +113,12 @@ fn put_chunk(
     }
 }
 
-/// What is said of the field in a row.
-fn field(reading: &Reading, row: Option<u64>, said: fn(&pdl_front::Field) -> String) -> String {
+/// What is said of the field in a row; nothing where there is none.
+fn field<'r, 's, S: Default>(
+    reading: &'r Reading<'s>,
+    row: Option<u64>,
+    said: fn(&Field<'r, 's>) -> S,
+) -> S {
     let field = row.and_then(|row| reading.field(row as usize));
-    field.map_or_else(String::new, |field| said(&field))
+    field.map_or_else(S::default, |field| said(&field))
 }

@@ -1,5 +1,8 @@
 //! What kinds, fields and constraints are called.
 
+use std::borrow::Cow;
+use std::fmt::{self, Display, Formatter};
+
 use pdl_front::{
     ChunkKind, CommentKind, ConstraintKind, DeclarationKind, Endianness, FieldKind, TagKind,
 };
@@ -90,26 +93,29 @@ pub fn chunk_kind(kind: ChunkKind) -> &'static str {
 }
 
 /// A kind in words.
-pub fn in_words(kind: &str) -> String {
-    kind.replace('_', " ")
+pub fn in_words(kind: &str) -> Cow<'_, str> {
+    match kind.contains('_') {
+        true => Cow::Owned(kind.replace('_', " ")),
+        false => Cow::Borrowed(kind),
+    }
 }
 
 /// What a field is called: its name, or what stands for it.
-pub fn called(field: &Field) -> String {
+pub fn called<'s>(field: &Field<'_, 's>) -> Cow<'s, str> {
     use FieldDescription::*;
     match field.description() {
-        Checksum { field_id } => format!("_checksum_start_({field_id})"),
-        Padding { .. } => "_padding_".to_owned(),
-        Size { field_id, .. } => format!("_size_({field_id})"),
-        Count { field_id, .. } => format!("_count_({field_id})"),
-        ElementSize { field_id, .. } => format!("_elementsize_({field_id})"),
-        Body => "_body_".to_owned(),
-        Payload { .. } => "_payload_".to_owned(),
-        FixedScalar { .. } | FixedEnum { .. } => "_fixed_".to_owned(),
-        Reserved { .. } => "_reserved_".to_owned(),
-        Array { id, .. } | Scalar { id, .. } | Typedef { id, .. } => id.to_owned(),
-        Group { group_id } => group_id.to_owned(),
-        _ => UNKNOWN.to_owned(),
+        Checksum { field_id } => format!("_checksum_start_({field_id})").into(),
+        Padding { .. } => "_padding_".into(),
+        Size { field_id, .. } => format!("_size_({field_id})").into(),
+        Count { field_id, .. } => format!("_count_({field_id})").into(),
+        ElementSize { field_id, .. } => format!("_elementsize_({field_id})").into(),
+        Body => "_body_".into(),
+        Payload { .. } => "_payload_".into(),
+        FixedScalar { .. } | FixedEnum { .. } => "_fixed_".into(),
+        Reserved { .. } => "_reserved_".into(),
+        Array { id, .. } | Scalar { id, .. } | Typedef { id, .. } => id.into(),
+        Group { group_id } => group_id.into(),
+        _ => UNKNOWN.into(),
     }
 }
 
@@ -130,14 +136,14 @@ pub fn written(field: &Field) -> String {
         FixedScalar { width, value } => format!("{name} = {value}: {width}"),
         FixedEnum { enum_id, tag_id } => format!("{name} = {tag_id}: {enum_id}"),
         Array { width, type_id, size_modifier, size, .. } => {
-            let element = type_id.map_or_else(|| number(width), str::to_owned);
-            format!("{name}: {element}[{}{}]", size_modifier.unwrap_or(""), number(size))
+            let element = type_id.map_or_else(|| Number(width).to_string(), str::to_owned);
+            format!("{name}: {element}[{}{}]", size_modifier.unwrap_or(""), Number(size))
         }
         Typedef { type_id, .. } => format!("{name}: {type_id}"),
         Group { .. } if field.constraints().len() > 0 => {
             format!("{name} {{ {} }}", constraints(field.constraints()))
         }
-        _ => name,
+        _ => name.into_owned(),
     };
     match field.condition() {
         Some(condition) => format!("{said} if {}", constraint(&condition)),
@@ -149,7 +155,7 @@ pub fn written(field: &Field) -> String {
 pub fn constraint(it: &Constraint) -> String {
     match it.tag() {
         Some(tag) => format!("{} = {tag}", it.id()),
-        None => format!("{} = {}", it.id(), number(it.value())),
+        None => format!("{} = {}", it.id(), Number(it.value())),
     }
 }
 
@@ -159,8 +165,12 @@ pub fn constraints<'r, 's: 'r>(rows: impl Iterator<Item = Constraint<'r, 's>>) -
 }
 
 /// A number, or nothing where there is none.
-pub fn number(number: Option<u64>) -> String {
-    number.map_or_else(String::new, |number| number.to_string())
+pub struct Number(pub Option<u64>);
+
+impl Display for Number {
+    fn fmt(&self, f: &mut Formatter) -> fmt::Result {
+        self.0.map_or(Ok(()), |number| Display::fmt(&number, f))
+    }
 }
 
 /// So many of something.

@@ -1,5 +1,7 @@
 //! Places as a person counts them: lines and columns from 1, and columns in characters.
 
+use std::fmt::{self, Display, Formatter};
+
 use pdl_front::{Place, Span};
 
 /// How many bytes of a source are counted at once.
@@ -30,14 +32,10 @@ impl<'s> Places<'s> {
         1 + place.column - (self.continuing_before(place.offset) - self.continuing_before(start))
     }
 
-    /// Line and column of a place.
-    pub fn of(&self, place: Place) -> String {
-        format!("{}:{}", place.line + 1, self.column(place))
-    }
-
-    /// From where to where a span goes.
-    pub fn of_span(&self, span: Span) -> String {
-        format!("{} to {}", self.of(span.start), self.of(span.end))
+    /// From where to where a span goes: lines and columns.
+    pub fn of_span(&self, span: Span) -> impl Display {
+        let Span { start, end } = span;
+        FromTo([(start.line + 1, self.column(start)), (end.line + 1, self.column(end))])
     }
 
     /// A place in a sentence.
@@ -48,6 +46,16 @@ impl<'s> Places<'s> {
     fn continuing_before(&self, offset: usize) -> usize {
         let block = offset / BLOCK;
         self.before[block] + continuing(&self.source[block * BLOCK..offset])
+    }
+}
+
+/// Two lines and columns.
+struct FromTo([(usize, usize); 2]);
+
+impl Display for FromTo {
+    fn fmt(&self, f: &mut Formatter) -> fmt::Result {
+        let [(line, column), (end_line, end_column)] = self.0;
+        write!(f, "{line}:{column} to {end_line}:{end_column}")
     }
 }
 
@@ -69,6 +77,7 @@ mod tests {
             let line = &source[offset - place.column..offset];
             assert_eq!(places.column(place), line.chars().count() + 1);
         }
-        assert_eq!(places.of(Place::of(source.as_bytes(), source.len())), "3:3");
+        let [start, end] = [0, source.len()].map(|offset| Place::of(source.as_bytes(), offset));
+        assert_eq!(places.of_span(Span { start, end }).to_string(), "1:1 to 3:3");
     }
 }

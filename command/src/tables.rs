@@ -1,11 +1,12 @@
 //! The tables for a person: texts in place of offsets, and places as an editor counts them.
 
-use std::fmt::Write;
+use std::borrow::Cow;
+use std::fmt::{Display, Write};
 
 use pdl_front::{Declaration, DeclarationKind, Field, FieldDescription, Reading, Span, Tag};
 
 use crate::grid::Grid;
-use crate::naming::{self, number};
+use crate::naming::{self, Number};
 use crate::places::Places;
 use crate::selection::{owner, Selection};
 use crate::visible;
@@ -48,14 +49,14 @@ impl<'r, 's> Shown<'r, 's> {
         ]);
         for it in self.reading.declarations().filter(|it| self.only.has(it)) {
             grid.add([
-                it.index().to_string(),
-                naming::declaration_kind(it.kind()).to_owned(),
-                it.id().to_owned(),
-                parent_or_text(&it),
-                number(it.width()),
-                members(&it),
-                naming::constraints(it.constraints()),
-                self.place(it.span()),
+                &it.index(),
+                &naming::declaration_kind(it.kind()),
+                &it.id(),
+                &parent_or_text(&it),
+                &Number(it.width()),
+                &members(&it),
+                &naming::constraints(it.constraints()),
+                &self.place(it.span()),
             ]);
         }
         grid
@@ -69,16 +70,16 @@ impl<'r, 's> Shown<'r, 's> {
         let mut grid = Grid::new(&heads);
         for (owner, it) in self.owned(self.reading.fields(), Field::span) {
             grid.add([
-                it.index().to_string(),
-                owner,
-                naming::in_words(naming::field_kind(it.kind())),
-                naming::called(&it),
-                field_type(&it),
-                field_width(&it),
-                size_or_value(&it),
-                naming::constraints(it.constraints()),
-                it.condition().map_or_else(String::new, |condition| naming::constraint(&condition)),
-                self.place(it.span()),
+                &it.index(),
+                &owner,
+                &naming::in_words(naming::field_kind(it.kind())),
+                &naming::called(&it),
+                &field_type(&it),
+                &field_width(&it),
+                &size_or_value(&it),
+                &naming::constraints(it.constraints()),
+                &naming::constraints(it.condition().into_iter()),
+                &self.place(it.span()),
             ]);
         }
         grid
@@ -88,15 +89,16 @@ impl<'r, 's> Shown<'r, 's> {
         let mut grid =
             Grid::new(&[">row", "in", "kind", "name", ">value", ">to", ">tags inside", "place"]);
         for (owner, it) in self.owned(self.reading.tags(), Tag::span) {
+            let range = it.range();
             grid.add([
-                it.index().to_string(),
-                owner,
-                naming::tag_kind(it.kind()).to_owned(),
-                it.id().to_owned(),
-                number(it.value().or_else(|| it.range().map(|range| *range.start()))),
-                number(it.range().map(|range| *range.end())),
-                number(Some(it.inner().len() as u64).filter(|count| *count > 0)),
-                self.place(it.span()),
+                &it.index(),
+                &owner,
+                &naming::tag_kind(it.kind()),
+                &it.id(),
+                &Number(it.value().or_else(|| range.as_ref().map(|range| *range.start()))),
+                &Number(range.as_ref().map(|range| *range.end())),
+                &Number(Some(it.inner().len() as u64).filter(|count| *count > 0)),
+                &self.place(it.span()),
             ]);
         }
         grid
@@ -105,14 +107,9 @@ impl<'r, 's> Shown<'r, 's> {
     fn constraints(&self) -> Grid {
         let mut grid = Grid::new(&[">row", "in", "kind", "says", "place"]);
         for (owner, it) in self.owned(self.reading.constraints(), |it| it.span()) {
-            let kind = naming::constraint_kind(it.kind()).to_owned();
-            grid.add([
-                it.index().to_string(),
-                owner,
-                kind,
-                naming::constraint(&it),
-                self.place(it.span()),
-            ]);
+            let kind = naming::constraint_kind(it.kind());
+            let place = self.place(it.span());
+            grid.add([&it.index(), &owner, &kind, &naming::constraint(&it), &place]);
         }
         grid
     }
@@ -120,9 +117,9 @@ impl<'r, 's> Shown<'r, 's> {
     fn comments(&self) -> Grid {
         let mut grid = Grid::new(&[">row", "in", "kind", "place", "says"]);
         for (owner, it) in self.owned(self.reading.comments(), |it| it.span()) {
-            let kind = naming::comment_kind(it.kind()).to_owned();
+            let kind = naming::comment_kind(it.kind());
             let says = visible::in_one_line(it.text(), COMMENT_WIDTH);
-            grid.add([it.index().to_string(), owner, kind, self.place(it.span()), says]);
+            grid.add([&it.index(), &owner, &kind, &self.place(it.span()), &says]);
         }
         grid
     }
@@ -132,22 +129,22 @@ impl<'r, 's> Shown<'r, 's> {
         &'i self,
         rows: impl Iterator<Item = V> + 'i,
         span: impl Fn(&V) -> Span + 'i,
-    ) -> impl Iterator<Item = (String, V)> + 'i {
+    ) -> impl Iterator<Item = (&'s str, V)> + 'i {
         rows.filter_map(move |it| {
             let owner = owner(self.reading, span(&it).start.offset);
             let asked = self.only.has_row_of(&owner);
-            asked.then(|| (owner.map_or("", |owner| owner.id()).to_owned(), it))
+            asked.then(|| (owner.map_or("", |owner| owner.id()), it))
         })
     }
 
-    fn place(&self, span: Span) -> String {
+    fn place(&self, span: Span) -> impl Display {
         self.places.of_span(span)
     }
 }
 
-fn parent_or_text(it: &Declaration) -> String {
-    let quoted = |text| format!("\"{}\"", visible::text(text));
-    it.parent().map(str::to_owned).or_else(|| it.function().map(quoted)).unwrap_or_default()
+fn parent_or_text<'s>(it: &Declaration<'_, 's>) -> Cow<'s, str> {
+    let quoted = |text| format!("\"{}\"", visible::text(text)).into();
+    it.parent().map(Cow::from).or_else(|| it.function().map(quoted)).unwrap_or_default()
 }
 
 /// The rows of a declaration's members.
@@ -166,29 +163,29 @@ fn members(it: &Declaration) -> String {
 }
 
 /// The type of a field, of its elements or of its tag.
-fn field_type(it: &Field) -> String {
+fn field_type<'s>(it: &Field<'_, 's>) -> &'s str {
     match it.description() {
-        FieldDescription::FixedEnum { enum_id, .. } => enum_id.to_owned(),
-        FieldDescription::Array { type_id, .. } => type_id.unwrap_or("").to_owned(),
-        FieldDescription::Typedef { type_id, .. } => type_id.to_owned(),
-        _ => String::new(),
+        FieldDescription::FixedEnum { enum_id, .. } => enum_id,
+        FieldDescription::Array { type_id, .. } => type_id.unwrap_or(""),
+        FieldDescription::Typedef { type_id, .. } => type_id,
+        _ => "",
     }
 }
 
 /// The width of a field or of its elements. A padding has a size alone.
-fn field_width(it: &Field) -> String {
+fn field_width(it: &Field) -> Number {
     match it.description() {
-        FieldDescription::Padding { .. } => String::new(),
-        _ => number(it.number_a()),
+        FieldDescription::Padding { .. } => Number(None),
+        _ => Number(it.number_a()),
     }
 }
 
-fn size_or_value(it: &Field) -> String {
+fn size_or_value<'s>(it: &Field<'_, 's>) -> Cow<'s, str> {
     match it.description() {
-        FieldDescription::Padding { size } => size.to_string(),
-        FieldDescription::FixedEnum { tag_id, .. } => tag_id.to_owned(),
-        FieldDescription::Payload { size_modifier } => size_modifier.unwrap_or("").to_owned(),
-        FieldDescription::Array { size_modifier: Some(modifier), .. } => modifier.to_owned(),
-        _ => number(it.number_b()),
+        FieldDescription::Padding { size } => size.to_string().into(),
+        FieldDescription::FixedEnum { tag_id, .. } => tag_id.into(),
+        FieldDescription::Payload { size_modifier } => size_modifier.unwrap_or("").into(),
+        FieldDescription::Array { size_modifier: Some(modifier), .. } => modifier.into(),
+        _ => Number(it.number_b()).to_string().into(),
     }
 }
