@@ -8,9 +8,18 @@ use crate::reading::{Reading, Refusal, DECLARATIONS, FIELDS};
 /// The letters of the tables' lines, in number order.
 const LETTERS: [&str; 5] = ["D", "F", "T", "C", "M"];
 
-/// What a program prints of a source: its tables, or the layouts of its declarations.
+/// What 01's programs print of a source: its tables, or the layouts of its declarations.
 pub fn program(source: &[u8], layouts_wanted: bool) -> String {
-    match answer::answer(source, &Limits::PROGRAM) {
+    lines(answer::answer(source, &Limits::PROGRAM), layouts_wanted)
+}
+
+/// The same of a source that is as long as the library takes, with as many rows as it needs.
+pub fn without_limits(source: &[u8], layouts_wanted: bool) -> String {
+    lines(answer::read(source, Limits::library([0; 5]).bytes), layouts_wanted)
+}
+
+fn lines(answered: Result<Reading, Refusal>, layouts_wanted: bool) -> String {
+    match answered {
         Ok(reading) if layouts_wanted => layouts(&reading),
         answered => answer(&answered),
     }

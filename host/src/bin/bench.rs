@@ -5,7 +5,7 @@ use host::ast::SourceDatabase;
 use host::parser::parse_inline;
 use host::port;
 use host::reading::{Refusal, ROW_WORDS};
-use host::sources::{on_one_line, realistic};
+use host::sources::{on_one_line, repeated};
 use std::hint::black_box;
 use std::time::{Duration, Instant};
 
@@ -16,10 +16,10 @@ const MIB: usize = KIB * KIB;
 const ROUNDS: usize = 9;
 
 fn main() {
-    let lines = realistic(MIB);
+    let lines = repeated(MIB);
     let line = on_one_line(&lines);
     let mut runs = [
-        Run::new("16 KiB", realistic(16 * KIB)),
+        Run::new("16 KiB", repeated(16 * KIB)),
         Run::new("1 MiB on many lines", lines),
         Run::new("1 MiB on one line", line),
     ];

@@ -11,9 +11,9 @@ mod valid;
 mod writer;
 
 pub use damaged::damaged;
-pub use long::{declarations, padded};
+pub use long::{declarations, on_one_line, padded, repeated};
 pub use parts::cuts;
-pub use realistic::{on_one_line, realistic};
+pub use realistic::{corpus, realistic, World, CONTROLLER, HEADS};
 pub use rng::Rng;
 pub use seams::{ended, more, SPARSE};
 pub use short::{Frame, FRAMES};

@@ -29,19 +29,23 @@ pub fn compare(rng: &mut Rng, tally: &mut Tally, seen: &mut Seen) {
     let rows = reading.counts()[DECLARATIONS];
     let whole = Rows::of(&reading);
     for index in (0..=rows).chain([u64::MAX]) {
-        // Of a row that is not fed at all, one size tells as much as many.
-        let fed =
-            whole.feed(index, Room::ENOUGH).map_or_else(|refusal| refusal.number, |_| 0) != 15;
-        let sizes = around(whole.need(index));
-        for words in sizes.into_iter().take(if fed { usize::MAX } else { 1 }) {
-            tally.check(|| whole.compare(index, words, WHOLE, seen));
-        }
-        for _ in 0..if fed { 10 } else { 1 } {
+        whole.compare_sizes(index, tally, seen);
+        for _ in 0..if whole.is_fed(index) { 10 } else { 1 } {
             let damaged = whole.damaged(rng);
             let sizes = around(damaged.need(index));
             let words = sizes[rng.below(sizes.len())];
             tally.check(|| damaged.compare(index, words, DAMAGED, seen));
         }
+    }
+}
+
+/// Feeds each row that the oracle makes of a description, as it is.
+pub fn compare_whole(source: &str, tally: &mut Tally, seen: &mut Seen) {
+    let limit = Limits::library([0; 5]).bytes;
+    let reading = read(source.as_bytes(), limit).expect("a description is read");
+    let whole = Rows::of(&reading);
+    for index in 0..reading.counts()[DECLARATIONS] {
+        whole.compare_sizes(index, tally, seen);
     }
 }
 
@@ -64,6 +68,20 @@ impl Rows {
         match self.feed(index, Room::ENOUGH) {
             Ok(layout) => Room { placed: layout.placed.len(), chunks: layout.chunks.len() },
             Err(_) => Room { placed: 2, chunks: 2 },
+        }
+    }
+
+    /// Whether a row is a packet, a struct or a group.
+    fn is_fed(&self, index: u64) -> bool {
+        self.feed(index, Room::ENOUGH).map_or_else(|refusal| refusal.number, |_| 0) != 15
+    }
+
+    /// A row over tables of every size around what it needs. Of a row that is not fed at all, one
+    /// size tells as much as many.
+    fn compare_sizes(&self, index: u64, tally: &mut Tally, seen: &mut Seen) {
+        let sizes = around(self.need(index));
+        for words in sizes.into_iter().take(if self.is_fed(index) { usize::MAX } else { 1 }) {
+            tally.check(|| self.compare(index, words, WHOLE, seen));
         }
     }
 

@@ -8,6 +8,7 @@ mod tables;
 
 use calls::{CALL, END, STATE, WRAPPED};
 use feedings::{DAMAGED, WHOLE};
+use host::sources::corpus;
 use host::tally::{asked, Asked, Seen, Tally};
 use std::process::ExitCode;
 
@@ -29,6 +30,7 @@ fn main() -> ExitCode {
     let before = tally.passed;
     sequences(asked, &mut tally);
     feedings(asked, &mut tally);
+    realistic(asked, &mut tally);
     let compared = tally.passed - before;
     println!("{compared} sequences and feedings are the same");
     tally.check(|| assert!(compared >= LEAST || asked.count < USUAL.count, "not {LEAST} compared"));
@@ -79,4 +81,17 @@ fn feedings(asked: Asked, tally: &mut Tally) {
         seen.require(DAMAGED, [0, 10, 12, 13, 14, 15, 16, 17], count / 20);
     });
     seen.print("feedings");
+}
+
+/// Every declaration of descriptions as people have them.
+fn realistic(asked: Asked, tally: &mut Tally) {
+    let mut rng = asked.rng(3);
+    let mut seen = Seen::default();
+    for _ in 0..asked.count / 2_000 {
+        for source in corpus(&mut rng) {
+            feedings::compare_whole(&source, tally, &mut seen);
+        }
+    }
+    tally.check(|| seen.require(WHOLE, [0, 13, 14, 15], asked.count / 40));
+    seen.print("declarations of descriptions");
 }

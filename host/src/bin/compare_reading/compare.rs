@@ -31,13 +31,13 @@ impl Run {
         }
     }
 
-    /// A source over tables around what it needs, and over a few by chance. What is refused for
-    /// itself is tried over those alone.
+    /// A source over tables around what it needs, over tables that grow up to that, and over a few
+    /// by chance. What is refused for itself is tried over those alone.
     pub fn sizes(&mut self, rng: &mut Rng, source: &[u8]) {
         let answer = self.answer(source);
         let rows = rows(&answer);
         if answer.is_ok() {
-            for sizes in lent::around(rows) {
+            for sizes in lent::around(rows).into_iter().chain(lent::growing(rows)) {
                 self.compare(source, &answer, sizes);
             }
         }

@@ -61,6 +61,14 @@ pub fn around(rows: [u64; 5]) -> Vec<Sizes> {
     sizes
 }
 
+/// No room at all, and then exactly enough for one table more, as tables grow that follow refusal 5.
+pub fn growing(rows: [u64; 5]) -> impl Iterator<Item = Sizes> {
+    let enough = exactly(rows);
+    let grown =
+        move |tables| std::array::from_fn(|table| if table < tables { enough[table] } else { 0 });
+    (0..ROW_WORDS.len()).map(grown)
+}
+
 /// Every size of one table from a row less to a row more, where the others are exactly enough.
 pub fn every(rows: [u64; 5]) -> Vec<Sizes> {
     let enough = exactly(rows);

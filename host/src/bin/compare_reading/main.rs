@@ -8,7 +8,7 @@ mod replay;
 use compare::{Run, ANSWER, REASON, SHORT};
 use host::answer::Limits;
 use host::cases;
-use host::sources::{self, FRAMES};
+use host::sources::{self, corpus, FRAMES};
 use host::tally::{asked, Asked};
 use std::io;
 use std::process::ExitCode;
@@ -36,6 +36,7 @@ fn main() -> io::Result<ExitCode> {
     damaged(asked, &mut run);
     long(asked, &mut run);
     longest(asked, &mut run);
+    realistic(asked, &mut run);
     let Run { mut tally, seen, sources } = run;
     seen.print("answers");
     println!("{sources} sources, {} readings are the same", tally.passed);
@@ -106,5 +107,17 @@ fn longest(asked: Asked, run: &mut Run) {
     }
     for more in [0, 1] {
         run.sizes(&mut rng, &vec![0xff; bytes + more]);
+    }
+}
+
+/// Descriptions as people have them, and damaged copies of them.
+fn realistic(asked: Asked, run: &mut Run) {
+    let mut rng = asked.rng(5);
+    for _ in 0..asked.count / 10_000 {
+        for source in corpus(&mut rng) {
+            run.sizes(&mut rng, source.as_bytes());
+            let copy = sources::damaged(&mut rng, source.as_bytes(), b"");
+            run.sizes(&mut rng, &copy);
+        }
     }
 }
