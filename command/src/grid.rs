@@ -55,14 +55,15 @@ impl Grid {
             page.push_str("  none\n");
             return;
         }
-        for column in &self.columns {
-            put_cell(page, column, column.head, visible::width(column.head));
+        let widths: Vec<_> = self.columns.iter().map(Column::width).collect();
+        for (column, wide) in self.columns.iter().zip(&widths) {
+            put_cell(page, column.side, *wide, column.head, visible::width(column.head));
         }
         end_line(page);
         let mut start = 0;
         for row in self.cells.chunks(self.columns.len()) {
-            for (column, (end, width)) in self.columns.iter().zip(row) {
-                put_cell(page, column, &self.text[start..*end], *width);
+            for ((column, wide), (end, width)) in self.columns.iter().zip(&widths).zip(row) {
+                put_cell(page, column.side, *wide, &self.text[start..*end], *width);
                 start = *end;
             }
             end_line(page);
@@ -70,13 +71,23 @@ impl Grid {
     }
 }
 
-/// Puts a cell of this width behind a text, unless its column is left out.
-fn put_cell(page: &mut String, column: &Column, cell: &str, width: usize) {
-    if column.widest == 0 {
+impl Column {
+    /// How wide it is; 0 where it is left out.
+    fn width(&self) -> usize {
+        match self.widest {
+            0 => 0,
+            widest => widest.max(visible::width(self.head)),
+        }
+    }
+}
+
+/// Puts a cell of this width behind a text, in a column that is so wide.
+fn put_cell(page: &mut String, side: Side, wide: usize, cell: &str, width: usize) {
+    if wide == 0 {
         return;
     }
-    let free = column.widest.max(visible::width(column.head)) - width;
-    let (left, right) = if column.side == Side::Left { (0, free) } else { (free, 0) };
+    let free = wide - width;
+    let (left, right) = if side == Side::Left { (0, free) } else { (free, 0) };
     spaces(page, 2 + left);
     page.push_str(cell);
     spaces(page, right);

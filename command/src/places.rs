@@ -45,7 +45,13 @@ impl<'s> Places<'s> {
 
     fn continuing_before(&self, offset: usize) -> usize {
         let block = offset / BLOCK;
-        self.before[block] + continuing(&self.source[block * BLOCK..offset])
+        match self.before.get(block + 1) {
+            Some(behind) if *behind > self.before[block] => {
+                self.before[block] + continuing(&self.source[block * BLOCK..offset])
+            }
+            // Most blocks have no such byte, and behind the last there is none.
+            _ => self.before[block],
+        }
     }
 }
 
