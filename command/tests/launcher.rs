@@ -504,7 +504,10 @@ fn another_toolchain_proves_the_port_again() {
     it.run();
     fs::remove_file(it.top.join("bin/rt")).unwrap();
     it.run();
-    it.tool("other tools/rt", RT);
+    // A link stands where it is called, as an installed kit has it.
+    it.tool("kit/bin/rt", RT);
+    fs::create_dir(it.top.join("other tools")).unwrap();
+    symlink("../kit/bin/rt", it.top.join("other tools/rt")).unwrap();
     let with_others = |it: &Checkout| {
         let mut call = it.call(it.path("pdl"));
         let [bin, others] = ["bin", "other tools"].map(|folder| it.top.join(folder));
@@ -513,7 +516,7 @@ fn another_toolchain_proves_the_port_again() {
     };
     assert_eq!(with_others(&it), "command 1 port 1");
     assert_eq!(it.calls(), [] as [&str; 0]);
-    it.tool("other tools/rt", &RT.replace("kit 1", "kit 2"));
+    it.tool("kit/bin/rt", &RT.replace("kit 1", "kit 2"));
     for calls in [&["rt", "cargo"][..], &[]] {
         assert_eq!(with_others(&it), "command 1 port 1");
         assert_eq!(it.calls(), calls);
