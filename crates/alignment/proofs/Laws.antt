@@ -1,6 +1,6 @@
 -- Each answer of the aligner's functions, from the tests that led to it.
 use Prim.Native.Nat.{ℕ, _+_, _-_, _%_, _<_, _≤_}
-use mathlib.Core.Path.{_≡_, refl, sym, _∙_}
+use mathlib.Core.Path.{_≡_, refl, sym, ap, _∙_}
 use mathlib.Core.List.{List}
 use mathlib.Core.Bool.{Bool, true, false, not}
 use native.Mathlib.Omega.{arith}
@@ -10,8 +10,9 @@ use Rattle.meaning.specs.declared.Aligner.{Aligner}
 use Rattle.meaning.specs.Tables.{put, room}
 use Rattle.meaning.specs.Rows.{placed-size, chunk-size, placed-words, chunk-words}
 use Rattle.meaning.specs.Alignment.{World, world, settled, staged, sound, due, bits-number, bytes-number, dyn-number, end-number, bits-done, chunk-done, call, add-bitfield, add-bytes, add-dyn-bytes}
-use Rattle.alignment.specs.Answers.{ended}
-use Rattle.alignment.specs.NumberLaws.{sound-says}
+use Rattle.alignment.specs.declared.Called.{Called}
+use Rattle.alignment.specs.Answers.{called, judged, one-chunk-more, ended}
+use Rattle.alignment.specs.NumberLaws.{sound-says, BitsFit, bits-fit}
 
 -- ---- the tests of 18
 module _ (w : World) where
@@ -169,52 +170,110 @@ module _ (w : World) (n : ℕ) (e : n ≡ sound w) where
         unfolding end-number
         end-0 = simp (good, none)
 
--- ---- the calls; n is the number that was judged
-refused : (n m : ℕ) (x y : World) → n ≡ m → (n ≡ 0 → ⊥) → record { number = n; left = y } ≡ settled m x y
-refused n m x y e h = rw (← e) (simp (ne-eqb n 0 h))
+-- ---- what a call would be answered: m is its number, n the one that was judged
+abbrev answer : ℕ → World → World → Called
+answer m x w = record { number = m; state = settled m x w .left .st }
 
-accepted : (n m : ℕ) (x y z : World) → n ≡ m → n ≡ 0 → z ≡ x → record { number = n; left = z } ≡ settled m x y
-accepted n m x y z e h p = rw (← e) (simp (h, p))
+refused : (n m : ℕ) (x w : World) → n ≡ m → (n ≡ 0 → ⊥) → record { number = n; state = w .st } ≡ answer m x w
+refused n m x w e h = rw (← e) (simp (ne-eqb n 0 h))
 
-module _ (a : Aligner) (s v : ℕ) (ps cs : List ℕ) (n : ℕ) where
-  abbrev w : World
-  w = world a ps cs
+accepted : (n m : ℕ) (x w : World) (b : Aligner) → n ≡ m → n ≡ 0 → b ≡ x .st → record { number = n; state = b } ≡ answer m x w
+accepted n m x w b e h p = rw (← e) (simp (h, p))
 
-  module _ (e : n ≡ bits-number v w) where
-    pub bits-refused : (n ≡ 0 → ⊥) → record { number = n; left = w } ≡ call (add-bitfield s v) w
-    unfolding call
+module _ (a : Aligner) (v : ℕ) (ps cs : List ℕ) {n : ℕ} where
+  module _ (e : n ≡ bits-number v (world a ps cs)) where
+    pub bits-refused : (n ≡ 0 → ⊥) → record { number = n; state = a } ≡ judged (add-bitfield 0 v) a ps cs
+    unfolding judged call
     bits-refused h = refused n _ _ _ e h
 
-    module _ (h : n ≡ 0) (b : Bool) (d : b ≡ due (a .width + v)) (ps′ : List ℕ) (p : ps′ ≡ put placed-size (a .placed) (placed-words s v (a .width)) ps) where
-      pub bits-chunk : b ≡ true → (cs′ : List ℕ) → cs′ ≡ put chunk-size (a .chunks) (chunk-words 1 (a .start) (a .placed + 1 - a .start) (a .width + v) 0) cs
-          → record { number = n; left = world (record { placed = a .placed + 1; chunks = a .chunks + 1; start = a .placed + 1; width = 0 }) ps′ cs′ } ≡ call (add-bitfield s v) w
-      unfolding call bits-done
-      bits-chunk t cs′ q = accepted n _ _ _ _ e h (simp (sym d ∙ t, p, q))
+    module _ (h : n ≡ 0) {b : Bool} (d : b ≡ due (a .width + v)) where
+      pub bits-due : b ≡ true
+          → record { number = n; state = record { placed = a .placed + 1; chunks = a .chunks + 1; start = a .placed + 1; width = 0 } }
+          ≡ judged (add-bitfield 0 v) a ps cs
+      unfolding judged call bits-done
+      bits-due t = accepted n _ _ _ _ e h (simp (sym d ∙ t))
 
       pub bits-staged : b ≡ false
-          → record { number = n; left = world (record { placed = a .placed + 1; chunks = a .chunks; start = a .start; width = a .width + v }) ps′ cs } ≡ call (add-bitfield s v) w
-      unfolding call bits-done
-      bits-staged t = accepted n _ _ _ _ e h (simp (sym d ∙ t, p))
+          → record { number = n; state = record { placed = a .placed + 1; chunks = a .chunks; start = a .start; width = a .width + v } }
+          ≡ judged (add-bitfield 0 v) a ps cs
+      unfolding judged call bits-done
+      bits-staged t = accepted n _ _ _ _ e h (simp (sym d ∙ t))
 
-  module _ (e : n ≡ bytes-number v w) where
-    pub bytes-refused : (n ≡ 0 → ⊥) → record { number = n; left = w } ≡ call (add-bytes s v) w
-    unfolding call
+  module _ (e : n ≡ bytes-number v (world a ps cs)) where
+    pub bytes-refused : (n ≡ 0 → ⊥) → record { number = n; state = a } ≡ judged (add-bytes 0 v) a ps cs
+    unfolding judged call
     bytes-refused h = refused n _ _ _ e h
 
-    pub bytes-chunk : n ≡ 0 → (cs′ : List ℕ) → cs′ ≡ put chunk-size (a .chunks) (chunk-words 2 0 0 v s) cs
-        → record { number = n; left = world (record { placed = a .placed; chunks = a .chunks + 1; start = a .start; width = a .width }) ps cs′ } ≡ call (add-bytes s v) w
-    unfolding call chunk-done
-    bytes-chunk h cs′ q = accepted n _ _ _ _ e h (simp q)
+    pub bytes-more : n ≡ 0 → {b : Aligner} → b ≡ one-chunk-more a → record { number = n; state = b } ≡ judged (add-bytes 0 v) a ps cs
+    unfolding judged call chunk-done
+    bytes-more h p = accepted n _ _ _ _ e h p
 
-module _ (a : Aligner) (s : ℕ) (ps cs : List ℕ) (n : ℕ) (e : n ≡ dyn-number (world a ps cs)) where
-  pub dyn-refused : (n ≡ 0 → ⊥) → record { number = n; left = world a ps cs } ≡ call (add-dyn-bytes s) (world a ps cs)
-  unfolding call
+module _ (a : Aligner) (ps cs : List ℕ) {n : ℕ} (e : n ≡ dyn-number (world a ps cs)) where
+  pub dyn-refused : (n ≡ 0 → ⊥) → record { number = n; state = a } ≡ judged (add-dyn-bytes 0) a ps cs
+  unfolding judged call
   dyn-refused h = refused n _ _ _ e h
 
-  pub dyn-chunk : n ≡ 0 → (cs′ : List ℕ) → cs′ ≡ put chunk-size (a .chunks) (chunk-words 3 0 0 0 s) cs
-      → record { number = n; left = world (record { placed = a .placed; chunks = a .chunks + 1; start = a .start; width = a .width }) ps cs′ } ≡ call (add-dyn-bytes s) (world a ps cs)
-  unfolding call chunk-done
-  dyn-chunk h cs′ q = accepted n _ _ _ _ e h (simp q)
+  pub dyn-more : n ≡ 0 → {b : Aligner} → b ≡ one-chunk-more a → record { number = n; state = b } ≡ judged (add-dyn-bytes 0) a ps cs
+  unfolding judged call chunk-done
+  dyn-more h p = accepted n _ _ _ _ e h p
+
+-- ---- the calls: r is what was judged. It stands for x, without the words; y has them
+left : (m : ℕ) (x y w : World) (r : Called) → r ≡ answer m x w → (r .number ≡ 0 → ⊥) → called r (w .ps) (w .cs) ≡ settled m y w
+left m x y w r e h =
+    let z : m ≡ 0 → ⊥ = λ i. h (rw e i) in
+    rw e (simp (ne-eqb m 0 z))
+
+made : (m : ℕ) (x y w : World) (r : Called) → r ≡ answer m x w → r .number ≡ 0 → (ps cs : List ℕ) → world (x .st) ps cs ≡ y → called r ps cs ≡ settled m y w
+made m x y w r e h ps cs p =
+    let z : m ≡ 0 = rw e at h in
+    rw (e, z) (ap (λ (u : World). record { number = 0; left = u }) p)
+
+module _ (a : Aligner) (ps cs : List ℕ) {r : Called} where
+  module _ (v : ℕ) (e : r ≡ judged (add-bitfield 0 v) a ps cs) where
+    pub bits-left : (r .number ≡ 0 → ⊥) → (s : ℕ) → called r ps cs ≡ call (add-bitfield s v) (world a ps cs)
+    unfolding judged call
+    bits-left h s = left _ _ _ (world a ps cs) r e h
+
+    module _ (h : r .number ≡ 0) where
+      pub bits-fits : BitsFit v (world a ps cs)
+      unfolding judged call
+      bits-fits = bits-fit v (world a ps cs) (rw e at h)
+
+      module _ {b : Bool} (d : b ≡ due (a .width + v)) where
+        pub bits-start : b ≡ true → r .state .start ≡ a .placed + 1
+        unfolding judged call bits-done
+        bits-start t = let z : bits-number v (world a ps cs) ≡ 0 = rw e at h in rw e (simp (z, sym d ∙ t))
+
+        module _ (s : ℕ) {ps′ : List ℕ} (p : ps′ ≡ put placed-size (a .placed) (placed-words s v (a .width)) ps) where
+          pub bits-chunk : b ≡ true → {cs′ : List ℕ}
+              → cs′ ≡ put chunk-size (a .chunks) (chunk-words 1 (a .start) (r .state .start - a .start) (a .width + v) 0) cs
+              → called r ps′ cs′ ≡ call (add-bitfield s v) (world a ps cs)
+          unfolding judged call bits-done
+          bits-chunk t q = made _ _ _ (world a ps cs) r e h _ _ (simp (sym d ∙ t, p, q, bits-start t))
+
+          pub bits-row : b ≡ false → called r ps′ cs ≡ call (add-bitfield s v) (world a ps cs)
+          unfolding judged call bits-done
+          bits-row t = made _ _ _ (world a ps cs) r e h _ _ (simp (sym d ∙ t, p))
+
+  module _ (v : ℕ) (e : r ≡ judged (add-bytes 0 v) a ps cs) where
+    pub bytes-left : (r .number ≡ 0 → ⊥) → (s : ℕ) → called r ps cs ≡ call (add-bytes s v) (world a ps cs)
+    unfolding judged call
+    bytes-left h s = left _ _ _ (world a ps cs) r e h
+
+    pub bytes-chunk : r .number ≡ 0 → (s : ℕ) {cs′ : List ℕ} → cs′ ≡ put chunk-size (a .chunks) (chunk-words 2 0 0 v s) cs
+        → called r ps cs′ ≡ call (add-bytes s v) (world a ps cs)
+    unfolding judged call chunk-done
+    bytes-chunk h s q = made _ _ _ (world a ps cs) r e h _ _ (simp q)
+
+  module _ (e : r ≡ judged (add-dyn-bytes 0) a ps cs) where
+    pub dyn-left : (r .number ≡ 0 → ⊥) → (s : ℕ) → called r ps cs ≡ call (add-dyn-bytes s) (world a ps cs)
+    unfolding judged call
+    dyn-left h s = left _ _ _ (world a ps cs) r e h
+
+    pub dyn-chunk : r .number ≡ 0 → (s : ℕ) {cs′ : List ℕ} → cs′ ≡ put chunk-size (a .chunks) (chunk-words 3 0 0 0 s) cs
+        → called r ps cs′ ≡ call (add-dyn-bytes s) (world a ps cs)
+    unfolding judged call chunk-done
+    dyn-chunk h s q = made _ _ _ (world a ps cs) r e h _ _ (simp q)
 
 module _ (a : Aligner) (ps cs : List ℕ) (n : ℕ) (e : n ≡ end-number (world a ps cs)) where
   pub end-refused : (n ≡ 0 → ⊥) → record { number = n; chunks = 0 } ≡ ended a ps cs

@@ -2,6 +2,7 @@ pub mod Answers
 pub mod NumberLaws
 pub mod Total
 pub mod SoundLaws
+pub mod LengthLaws
 pub mod ByteAligner
 pub mod Told
 pub mod SameAligner

@@ -1,10 +1,11 @@
 // The byte aligner's core (alignment.rs, `ByteAligner`): a state by value over two lent tables of words.
 ghost use mathlib.Core.Path.{_≡_};
 ghost use mathlib.Core.Bool.{not};
+ghost use Prim.Native.Nat.{_<_};
 ghost use Rattle.meaning.specs.Tables.{put};
 ghost use Rattle.meaning.specs.Rows.{placed-size, chunk-size};
 ghost use Rattle.meaning.specs.Alignment.{world, staged, sound, due, bits-number, bytes-number, dyn-number, end-number, call, add-bitfield, add-bytes, add-dyn-bytes};
-ghost use Rattle.alignment.specs.Answers.{called, ended};
+ghost use Rattle.alignment.specs.Answers.{called, judged, one-chunk-more, ended};
 use ast::numbers;
 use meaning::Aligner;
 
@@ -46,7 +47,7 @@ fn sound_number(a: Aligner, placed: &[u64], chunks: &[u64]) -> u64
 }
 
 // Whether no field is staged, zero-width ones too.
-fn is_aligned(a: Aligner) -> bool
+pub fn is_aligned(a: Aligner) -> bool
     ensures { λ r. ⌜ r ≡ not (staged a) ⌝ }
 {
     a.placed <= a.start
@@ -134,6 +135,75 @@ fn end_number(a: Aligner, placed: &[u64], chunks: &[u64]) -> u64
     0
 }
 
+// The state with one chunk row more.
+fn one_chunk_more(a: Aligner) -> Aligner
+    requires { ⌜ a .chunks < 18446744073709551615 ⌝ }
+    ensures { λ r. ⌜ r ≡ one-chunk-more a ⌝ }
+{
+    Aligner {
+        placed: a.placed,
+        chunks: a.chunks + 1,
+        start: a.start,
+        width: a.width,
+    }
+}
+
+// What a bit field would be answered, and the state that it would leave. No row is written.
+pub fn judge_bitfield(a: Aligner, placed: &[u64], chunks: &[u64], width: u64) -> Called
+    ensures { λ r. ⌜ r ≡ judged (add-bitfield 0 width) a (now (placed .entry)) (now (chunks .entry)) ⌝ }
+{
+    let number = bits_number(a, placed, chunks, width);
+    if number != 0 {
+        return Called { number, state: a };
+    }
+    let total = a.width + width;
+    let next = a.placed + 1;
+    if is_due(total) {
+        return Called {
+            number,
+            state: Aligner {
+                placed: next,
+                chunks: a.chunks + 1,
+                start: next,
+                width: 0,
+            },
+        };
+    }
+    Called {
+        number,
+        state: Aligner {
+            placed: next,
+            chunks: a.chunks,
+            start: a.start,
+            width: total,
+        },
+    }
+}
+
+// What bytes of a known width would be answered, and the state that they would leave.
+pub fn judge_bytes(a: Aligner, placed: &[u64], chunks: &[u64], width: u64) -> Called
+    ensures { λ r. ⌜ r ≡ judged (add-bytes 0 width) a (now (placed .entry)) (now (chunks .entry)) ⌝ }
+{
+    let number = bytes_number(a, placed, chunks, width);
+    if number != 0 {
+        return Called { number, state: a };
+    }
+    let state = one_chunk_more(a);
+    Called { number, state }
+}
+
+// What dynamic bytes would be answered, and the state that they would leave.
+pub fn judge_dyn_bytes(a: Aligner, placed: &[u64], chunks: &[u64]) -> Called
+    ensures { λ r. ⌜ r ≡ judged (add-dyn-bytes 0) a (now (placed .entry)) (now (chunks .entry)) ⌝ }
+{
+    let number = dyn_number(a, placed, chunks);
+    if number != 0 {
+        return Called { number, state: a };
+    }
+    let state = one_chunk_more(a);
+    Called { number, state }
+}
+
 // A placed row into its table.
 fn put_placed(t: &mut [u64], k: usize, row: [u64; numbers::PLACED_WORDS])
     ensures { λ _. ⌜ now (t .exit) ≡ put placed-size k row (now (t .entry)) ⌝ }
@@ -158,40 +228,23 @@ pub fn add_bitfield(
 ) -> Called
     ensures { λ r. ⌜ called r (now (placed .exit)) (now (chunks .exit)) ≡ call (add-bitfield symbol width) (world a (now (placed .entry)) (now (chunks .entry))) ⌝ }
 {
-    let number = bits_number(a, placed, chunks, width);
-    if number != 0 {
-        return Called { number, state: a };
+    let r = judge_bitfield(a, placed, chunks, width);
+    if r.number != 0 {
+        return r;
     }
     let total = a.width + width;
-    let next = a.placed + 1;
     put_placed(placed, a.placed, [symbol, width, a.width]);
     if is_due(total) {
-        let after = a.chunks + 1;
+        let next = r.state.start;
         let count = next - a.start;
         put_chunk(
             chunks,
             a.chunks,
             [1, a.start as u64, count as u64, total, 0],
         );
-        return Called {
-            number,
-            state: Aligner {
-                placed: next,
-                chunks: after,
-                start: next,
-                width: 0,
-            },
-        };
+        return r;
     }
-    Called {
-        number,
-        state: Aligner {
-            placed: next,
-            chunks: a.chunks,
-            start: a.start,
-            width: total,
-        },
-    }
+    r
 }
 
 // One chunk of bytes of a known width.
@@ -204,40 +257,24 @@ pub fn add_bytes(
 ) -> Called
     ensures { λ r. ⌜ called r (now (placed .exit)) (now (chunks .exit)) ≡ call (add-bytes symbol width) (world a (now (placed .entry)) (now (chunks .entry))) ⌝ }
 {
-    let number = bytes_number(a, placed, chunks, width);
-    if number != 0 {
-        return Called { number, state: a };
+    let r = judge_bytes(a, placed, chunks, width);
+    if r.number != 0 {
+        return r;
     }
     put_chunk(chunks, a.chunks, [2, 0, 0, width, symbol]);
-    Called {
-        number,
-        state: Aligner {
-            placed: a.placed,
-            chunks: a.chunks + 1,
-            start: a.start,
-            width: a.width,
-        },
-    }
+    r
 }
 
 // One chunk of bytes of an unknown width.
 pub fn add_dyn_bytes(a: Aligner, placed: &mut [u64], chunks: &mut [u64], symbol: u64) -> Called
     ensures { λ r. ⌜ called r (now (placed .exit)) (now (chunks .exit)) ≡ call (add-dyn-bytes symbol) (world a (now (placed .entry)) (now (chunks .entry))) ⌝ }
 {
-    let number = dyn_number(a, placed, chunks);
-    if number != 0 {
-        return Called { number, state: a };
+    let r = judge_dyn_bytes(a, placed, chunks);
+    if r.number != 0 {
+        return r;
     }
     put_chunk(chunks, a.chunks, [3, 0, 0, 0, symbol]);
-    Called {
-        number,
-        state: Aligner {
-            placed: a.placed,
-            chunks: a.chunks + 1,
-            start: a.start,
-            width: a.width,
-        },
-    }
+    r
 }
 
 // The end: the chunk count, where nothing is staged. It changes nothing.

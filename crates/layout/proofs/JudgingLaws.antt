@@ -12,66 +12,27 @@ use Rattle.meaning.specs.declared.Aligner.{Aligner}
 use Rattle.meaning.specs.Choice.{pick}
 use Rattle.meaning.specs.Tables.{put}
 use Rattle.meaning.specs.Rows.{placed-size, placed-symbol, placed-words, chunk-size, chunk-words}
-use Rattle.meaning.specs.Alignment.{World, world, staged, sound, settled, due, bits-number, dyn-number, end-number, bits-done, chunk-done, add-bitfield, add-dyn-bytes, call}
+use Rattle.meaning.specs.Alignment.{World, world, staged, due, end-number, bits-done, chunk-done, add-bitfield, add-dyn-bytes, call}
 use Rattle.meaning.specs.Feeding.{word, Fed, fed-refused, feed-fields}
 use Rattle.ast.specs.RowLaws.{fits-iff, length-put, put-word, put-word-before}
-use Rattle.alignment.specs.NumberLaws.{Sound, sound-is, BitsFit, bits-fit, dyn-fit}
+use Rattle.alignment.specs.Answers.{judged}
+use Rattle.alignment.specs.NumberLaws.{Sound, sound-is, BitsFit, bits-fit, ChunkFits, dyn-fit}
 use Rattle.alignment.specs.SoundLaws.{sound-kept}
+use Rattle.alignment.specs.LengthLaws.{same-end, same-judged}
 use Rattle.layout.specs.declared.Verdict.{Verdict}
 use Rattle.layout.specs.declared.Request.{Request}
 use Rattle.layout.specs.declared.Request.the-variants.{Nothing, Bits, Dynamic, Refused}
 use Rattle.layout.specs.Requests.{request, served, feeds}
-use Rattle.layout.specs.Judging.{judged, verdict, judge}
+use Rattle.layout.specs.Judging.{foreseen, verdict, judge}
 
 -- ---- tables of the same lengths
-module _ (a : Aligner) (ps cs ps′ cs′ : List ℕ) (p : length ps′ ≡ length ps) (q : length cs′ ≡ length cs) where
-  same-sound : Sound (world a ps′ cs′) → Sound (world a ps cs)
-  same-sound s =
-      record { narrow = s .narrow; ordered = s .ordered; in-placed = rw p at (s .in-placed); in-chunks = rw q at (s .in-chunks); none = s .none }
-
-  same-end : end-number (world a ps′ cs′) ≡ end-number (world a ps cs)
-  unfolding end-number sound
-  same-end = rw (p, q)
-
-  same-bits : (v : ℕ) → bits-number v (world a ps′ cs′) ≡ bits-number v (world a ps cs)
-  unfolding bits-number sound
-  same-bits v = rw (p, q)
-
-  same-dyn : dyn-number (world a ps′ cs′) ≡ dyn-number (world a ps cs)
-  unfolding dyn-number sound
-  same-dyn = rw (p, q)
-
-  same-number : (r : Request) (i : ℕ) → served r i (world a ps′ cs′) .number ≡ judged r a ps cs .number
-  unfolding served judged call
-  same-number Nothing i = refl
-  same-number (Bits v) i = same-bits v
-  same-number Dynamic i = same-dyn
-  same-number (Refused n) i = refl
-
-  states : (n m : ℕ) (x x′ y y′ : World) → n ≡ m → x .st ≡ x′ .st → y .st ≡ y′ .st → settled n x y .left .st ≡ settled m x′ y′ .left .st
-  states n m x x′ y y′ e f g = rw e (cases (eqb m 0))
-    where
-      cases : (b : Bool) → pick b x y .st ≡ pick b x′ y′ .st
-      cases true = f
-      cases false = g
-
-  bits-state : (i j v : ℕ) → bits-done i v (world a ps′ cs′) .st ≡ bits-done j v (world a ps cs) .st
-  unfolding bits-done
-  bits-state i j v = cases (due (a .width + v)) _ _ _ _ _ _ _ _
-    where
-      cases : (b : Bool) (x y : Aligner) (s t u s′ t′ u′ : List ℕ) → pick b (world x s t) (world y s u) .st ≡ pick b (world x s′ t′) (world y s′ u′) .st
-      cases true x y s t u s′ t′ u′ = refl
-      cases false x y s t u s′ t′ u′ = refl
-
-  same-state : (r : Request) (i : ℕ) → served r i (world a ps′ cs′) .left .st ≡ judged r a ps cs .state
-  unfolding served judged call chunk-done
-  same-state Nothing i = refl
-  same-state (Bits v) i = states _ _ _ _ _ _ (same-bits v) (bits-state i 0 v) refl
-  same-state Dynamic i = states _ _ _ _ _ _ same-dyn refl refl
-  same-state (Refused n) i = refl
-
-  same-called : (r : Request) (i : ℕ) → judged r a ps cs ≡ record { number = served r i (world a ps′ cs′) .number; state = served r i (world a ps′ cs′) .left .st }
-  same-called r i = rw (same-number r i, same-state r i)
+same-foreseen : (a : Aligner) (ps cs ps′ cs′ : List ℕ) → length ps′ ≡ length ps → length cs′ ≡ length cs → (r : Request) (i : ℕ)
+    → foreseen r a ps cs ≡ record { number = served r i (world a ps′ cs′) .number; state = served r i (world a ps′ cs′) .left .st }
+unfolding foreseen served judged
+same-foreseen a ps cs ps′ cs′ p q Nothing i = refl
+same-foreseen a ps cs ps′ cs′ p q (Bits v) i = sym (same-judged a ps cs ps′ cs′ p q (add-bitfield i v))
+same-foreseen a ps cs ps′ cs′ p q Dynamic i = sym (same-judged a ps cs ps′ cs′ p q (add-dyn-bytes i))
+same-foreseen a ps cs ps′ cs′ p q (Refused n) i = refl
 
 -- ---- what an accepted field keeps
 -- w has tables of these lengths, and f is the symbol of its first staged row
@@ -117,20 +78,20 @@ module _ (ps cs : List ℕ) where
         (record { placed = p; chunks = c; first = λ l. absurd (omega arith) })
         (record { placed = p; chunks = h .chunks; first = λ l. row-first i v b })
 
-    held-dyn : (i : ℕ) → dyn-number w ≡ 0 → Held ps cs (chunk-done 3 i 0 w) (pick (staged (w .st)) f i)
+    held-chunk : (kind i v : ℕ) → ChunkFits w → Held ps cs (chunk-done kind i v w) (pick (staged (w .st)) f i)
     unfolding chunk-done
-    held-dyn i e =
+    held-chunk kind i v c =
         record {
           placed = h .placed;
-          chunks = length-put chunk-size (w .st .chunks) (chunk-words 3 0 0 0 i) (w .cs) refl ∙ h .chunks;
-          first = λ l. absurd (omega (arith, dyn-fit w e .bare));
+          chunks = length-put chunk-size (w .st .chunks) (chunk-words kind 0 0 v i) (w .cs) refl ∙ h .chunks;
+          first = λ l. absurd (omega (arith, c .bare));
         }
 
     held-next : (r : Request) (i : ℕ) → served r i w .number ≡ 0 → Held ps cs (served r i w .left) (pick (staged (w .st)) f i)
     unfolding served call
     held-next Nothing i e = stays i
     held-next (Bits v) i e = rw e (held-bits i v (bits-fit v w e))
-    held-next Dynamic i e = rw e (held-dyn i e)
+    held-next Dynamic i e = rw e (held-chunk 3 i 0 (dyn-fit w e))
     held-next (Refused n) i e = stays i
 
 sound-served : (r : Request) (i : ℕ) (w : World) → Sound w → Sound (served r i w .left)
@@ -139,15 +100,6 @@ sound-served Nothing i w s = s
 sound-served (Bits v) i w s = sound-kept (add-bitfield i v) w s
 sound-served Dynamic i w s = sound-kept (add-dyn-bytes i) w s
 sound-served (Refused n) i w s = s
-
--- the judged state is sound over the tables as they came
-pub sound-judged : (ps cs : List ℕ) (r : Request) (a : Aligner) → Sound (world a ps cs) → judged r a ps cs .number ≡ 0 → Sound (world (judged r a ps cs .state) ps cs)
-unfolding judged
-sound-judged ps cs r a s e =
-    let w = world a ps cs in
-    let h : Held ps cs w (word ps placed-size (a .start) placed-symbol) = record { placed = refl; chunks = refl; first = λ l. refl } in
-    let k = held-next ps cs w _ h r 0 e in
-    same-sound _ ps cs _ _ (k .placed) (k .chunks) (sound-served r 0 w s)
 
 -- ---- the whole
 module _ (fs ps cs : List ℕ) where
@@ -172,5 +124,5 @@ module _ (fs ps cs : List ℕ) where
   judge-is zero i w f s h = rw (← same-end (w .st) ps cs (w .ps) (w .cs) (h .placed) (h .chunks)) (rw (end-place w f s h))
   judge-is (suc n) i w f s h =
       let r = request fs i in
-      rw (feeds i w fs, same-called (w .st) ps cs (w .ps) (w .cs) (h .placed) (h .chunks) r i)
+      rw (feeds i w fs, same-foreseen (w .st) ps cs (w .ps) (w .cs) (h .placed) (h .chunks) r i)
       (turn i (served r i w .number) _ _ _ (λ e. judge-is n (i + 1) (served r i w .left) _ (sound-served r i w s) (held-next ps cs w f h r i e)))

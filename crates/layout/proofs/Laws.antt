@@ -1,26 +1,24 @@
 -- Each answer of the judging functions, from the tests that led to it.
-use Prim.Native.Nat.{ℕ, _+_, _-_, _%_, _<_, _≤_}
+use Prim.Native.Nat.{ℕ, _+_, _-_, _<_, _≤_}
 use mathlib.Core.Path.{_≡_, refl, sym, _∙_}
 use mathlib.Core.List.{List, [], _∷_}
 use mathlib.Core.Bool.{Bool, true, false}
-use native.Mathlib.Omega.{arith}
 use native.Mathlib.Numerals.{add-one}
 use lib.ListN.{length, getD, drop, drop-of-length-le}
 use lib.Seq.{drop-cons}
-use lib.Dec.{ltb, eqb}
-use borrow.Author.Tests.{lt-ltb, le-ltb, le-leb, lt-leb, eq-eqb, ne-eqb}
+use lib.Dec.{ltb}
+use borrow.Author.Tests.{lt-ltb, le-ltb, eq-eqb, ne-eqb}
 use Rattle.meaning.specs.declared.Aligner.{Aligner}
 use Rattle.meaning.specs.Choice.{pick, both}
-use Rattle.meaning.specs.Tables.{room}
-use Rattle.meaning.specs.Rows.{row-kind, field-flag-a, field-number-a, field-flag-b, field-condition, placed-size, chunk-size}
-use Rattle.meaning.specs.Alignment.{World, world, sound, due, bits-number, dyn-number, bits-done, chunk-done, Called, add-bitfield, add-dyn-bytes, call}
+use Rattle.meaning.specs.Rows.{row-kind, field-flag-a, field-number-a, field-flag-b, field-condition}
+use Rattle.meaning.specs.Alignment.{World, Called, add-bitfield, add-dyn-bytes, call}
 use Rattle.meaning.specs.Feeding.{field-word, among, numbered}
 use Rattle.alignment.specs.declared.Called as answer
-use Rattle.alignment.specs.NumberLaws.{Sound, sound-is}
+use Rattle.alignment.specs.Answers.{judged}
 use Rattle.layout.specs.declared.Request.{Request}
 use Rattle.layout.specs.declared.Request.the-variants.{Nothing, Bits, Dynamic, Refused}
 use Rattle.layout.specs.Requests.{damage, by-kind, request, served}
-use Rattle.layout.specs.Judging.{judged}
+use Rattle.layout.specs.Judging.{foreseen}
 
 -- ---- a search among kinds
 module _ (k : ℕ) (xs : List ℕ) (i : ℕ) where
@@ -110,73 +108,23 @@ module _ (fs : List ℕ) (i k f o : ℕ) (ek : k ≡ field-word fs i row-kind) (
     unfolding request
     request-kind l v ev r er = rw (damage-is ∙ t, ← ec, ← ek, ← ev) (simp (le-ltb _ _ l) er)
 
-pub due-none : (t : ℕ) → t ≡ 0 → false ≡ due t
-unfolding due
-due-none t h = simp h
-
-pub due-some : (t : ℕ) → (t ≡ 0 → ⊥) → eqb (t % 8) 0 ≡ due t
-unfolding due
-due-some t h = let p : 0 < t = omega arith in simp (lt-ltb _ _ p)
-
--- ---- what the aligner would answer
-module _ (a : Aligner) (ps cs : List ℕ) (s : Sound (world a ps cs)) where
-  good : ltb 0 (sound (world a ps cs)) ≡ false
-  good = rw (sound-is (world a ps cs) s)
-
-  module _ (v : ℕ) where
-    pub bits-12 : 64 - a .width < v → record { number = 12; state = a } ≡ judged (Bits v) a ps cs
-    unfolding judged served call bits-number
-    bits-12 h = let z : 64 < a .width + v = omega (arith, s .narrow) in simp (good, lt-ltb _ _ z)
-
-    module _ (h : v ≤ 64 - a .width) where
-      fits : ltb 64 (a .width + v) ≡ false
-      fits = le-ltb 64 (a .width + v) (omega (arith, s .narrow))
-
-      pub bits-13 : room placed-size ps ≤ a .placed → record { number = 13; state = a } ≡ judged (Bits v) a ps cs
-      unfolding judged served call bits-number
-      bits-13 i = simp (good, fits, le-leb _ _ i)
-
-      module _ (i : a .placed < room placed-size ps) (b : Bool) (e : b ≡ due (a .width + v)) where
-        pub bits-13′ : b ≡ true → room chunk-size cs ≤ a .chunks → record { number = 13; state = a } ≡ judged (Bits v) a ps cs
-        unfolding judged served call bits-number
-        bits-13′ t j = simp (good, fits, lt-leb _ _ i, sym e ∙ t, le-leb _ _ j)
-
-        pub bits-chunk : b ≡ true → a .chunks < room chunk-size cs
-            → record { number = 0; state = record { placed = a .placed + 1; chunks = a .chunks + 1; start = a .placed + 1; width = 0 } } ≡ judged (Bits v) a ps cs
-        unfolding judged served call bits-number bits-done
-        bits-chunk t j = simp (good, fits, lt-leb _ _ i, sym e ∙ t, lt-leb _ _ j)
-
-        pub bits-staged : b ≡ false
-            → record { number = 0; state = record { placed = a .placed + 1; chunks = a .chunks; start = a .start; width = a .width + v } } ≡ judged (Bits v) a ps cs
-        unfolding judged served call bits-number bits-done
-        bits-staged t = simp (good, fits, lt-leb _ _ i, sym e ∙ t)
-
-  pub dyn-10 : a .start < a .placed → record { number = 10; state = a } ≡ judged Dynamic a ps cs
-  unfolding judged served call dyn-number
-  dyn-10 h = simp (good, lt-ltb _ _ h)
-
-  module _ (h : a .placed ≤ a .start) where
-    pub dyn-13 : room chunk-size cs ≤ a .chunks → record { number = 13; state = a } ≡ judged Dynamic a ps cs
-    unfolding judged served call dyn-number
-    dyn-13 i = simp (good, le-ltb _ _ h, le-leb _ _ i)
-
-    pub dyn-chunk : a .chunks < room chunk-size cs
-        → record { number = 0; state = record { placed = a .placed; chunks = a .chunks + 1; start = a .start; width = a .width } } ≡ judged Dynamic a ps cs
-    unfolding judged served call dyn-number chunk-done
-    dyn-chunk i = simp (good, le-ltb _ _ h, lt-leb _ _ i)
-
 -- ---- by the request
-module _ (q : Request) (a : Aligner) (ps cs : List ℕ) where
-  pub judged-nothing : q ≡ Nothing → record { number = 0; state = a } ≡ judged q a ps cs
-  unfolding judged served
-  judged-nothing e = rw e
+module _ {q : Request} (a : Aligner) (ps cs : List ℕ) where
+  pub foreseen-nothing : q ≡ Nothing → record { number = 0; state = a } ≡ foreseen q a ps cs
+  unfolding foreseen
+  foreseen-nothing e = rw e
 
-  pub judged-refused : (n : ℕ) → q ≡ Refused n → record { number = n; state = a } ≡ judged q a ps cs
-  unfolding judged served
-  judged-refused n e = rw e
+  pub foreseen-refused : {n : ℕ} → q ≡ Refused n → record { number = n; state = a } ≡ foreseen q a ps cs
+  unfolding foreseen
+  foreseen-refused e = rw e
 
-  pub judged-as : (r : Request) (x : answer.Called) → q ≡ r → x ≡ judged r a ps cs → x ≡ judged q a ps cs
-  judged-as r x e h = rw e h
+  pub foreseen-bits : {v : ℕ} → q ≡ Bits v → {x : answer.Called} → x ≡ judged (add-bitfield 0 v) a ps cs → x ≡ foreseen q a ps cs
+  unfolding foreseen
+  foreseen-bits e h = rw e h
+
+  pub foreseen-dynamic : q ≡ Dynamic → {x : answer.Called} → x ≡ judged (add-dyn-bytes 0) a ps cs → x ≡ foreseen q a ps cs
+  unfolding foreseen
+  foreseen-dynamic e h = rw e h
 
 module _ (q : Request) (i : ℕ) (w : World) where
   pub served-nothing : q ≡ Nothing → w ≡ served q i w .left

@@ -12,37 +12,33 @@ use Rattle.meaning.specs.Feeding.{Fed, onto, feed-field, feed-fields}
 use Rattle.alignment.specs.declared.Called.{Called}
 use Rattle.alignment.specs.declared.Ended.{Ended}
 use Rattle.alignment.specs.Answers.{ended}
-use Rattle.alignment.specs.NumberLaws.{Sound}
 use Rattle.alignment.specs.SoundLaws.{sound-fresh}
 use Rattle.layout.specs.declared.Request.{Request}
 use Rattle.layout.specs.Requests.{request, served, feeds}
-use Rattle.layout.specs.Judging.{judged, verdict, judge}
-use Rattle.layout.proofs.JudgingLaws.{judge-is, sound-judged}
+use Rattle.layout.specs.Judging.{foreseen, verdict, judge}
+use Rattle.layout.proofs.JudgingLaws.{Held, judge-is}
 
 -- ---- the judging loop
-pub sound-start : (ps cs : List ℕ) (a : Aligner) → a ≡ fresh → Sound (world a ps cs)
-sound-start ps cs a e = rw e (sound-fresh ps cs)
-
 module _ (fs ps cs : List ℕ) where
-  pub judge-start : (first count : ℕ) (a : Aligner) → a ≡ fresh
+  pub judge-start : (first count : ℕ) {a : Aligner} → a ≡ fresh
       → judge fs ps cs (first + count - first) first a first ≡ verdict (feed-fields fs count first (world fresh ps cs))
-  judge-start first count a e =
+  judge-start first count e =
       let n : first + count - first ≡ count = omega arith in
-      rw (n, e) (judge-is fs ps cs count first (world fresh ps cs) first (sound-fresh ps cs) (record { placed = refl; chunks = refl; first = λ l. absurd (omega arith) }))
+      let h : Held ps cs (world fresh ps cs) first = record { placed = refl; chunks = refl; first = λ l. absurd (omega arith) } in
+      rw (n, e) (judge-is fs ps cs count first (world fresh ps cs) first (sound-fresh ps cs) h)
 
-  module _ (end i : ℕ) (a : Aligner) (f : ℕ) (q : Request) (eq : q ≡ request fs i) (c : Called) (ec : c ≡ judged q a ps cs) where
-    e : c ≡ judged (request fs i) a ps cs
+  -- c is what the field at row i would be answered
+  module _ (end f i : ℕ) (a : Aligner) {q : Request} (eq : q ≡ request fs i) {c : Called} (ec : c ≡ foreseen q a ps cs) where
+    e : c ≡ foreseen (request fs i) a ps cs
     e = rw (← eq) ec
-
-    pub sound-turn : c .number ≡ 0 → Sound (world a ps cs) → Sound (world (c .state) ps cs)
-    sound-turn z s = rw e (sound-judged ps cs (request fs i) a s (rw e at z))
 
     turns : (n m g : ℕ) → n ≡ suc m → c .number ≡ 0 → g ≡ pick (staged a) f i → judge fs ps cs m (i + 1) (c .state) g ≡ judge fs ps cs n i a f
     unfolding judge
     turns n m g l z h = rw (l, ← e) (rw (z, h))
 
-    pub judge-turn : i < end → c .number ≡ 0 → (g : ℕ) → g ≡ pick (staged a) f i → judge fs ps cs (end - (i + 1)) (i + 1) (c .state) g ≡ judge fs ps cs (end - i) i a f
-    judge-turn l z g h = turns (end - i) _ g (omega arith) z h
+    pub judge-turn : i < end → c .number ≡ 0 → {g : ℕ} → g ≡ pick (staged a) f i
+        → judge fs ps cs (end - (i + 1)) (i + 1) (c .state) g ≡ judge fs ps cs (end - i) i a f
+    judge-turn l z h = turns (end - i) _ _ (omega arith) z h
 
     stops : (n m k : ℕ) → n ≡ suc m → c .number ≡ k → (k ≡ 0 → ⊥) → record { number = k; place = i } ≡ judge fs ps cs n i a f
     unfolding judge
@@ -52,7 +48,7 @@ module _ (fs ps cs : List ℕ) where
     pub judge-stop : i < end → (c .number ≡ 0 → ⊥) → record { number = c .number; place = i } ≡ judge fs ps cs (end - i) i a f
     judge-stop l h = stops (end - i) (end - (i + 1)) _ (omega arith) refl h
 
-  module _ (end i : ℕ) (l : end ≤ i) (a : Aligner) (f : ℕ) (x : Ended) (e : x ≡ ended a ps cs) where
+  module _ (f : ℕ) (a : Aligner) {end i : ℕ} (l : end ≤ i) {x : Ended} (e : x ≡ ended a ps cs) where
     at-end : (n : ℕ) → n ≡ 0 → judge fs ps cs n i a f ≡ record { number = x .number; place = pick (eqb (x .number) 0) 0 f }
     unfolding judge ended
     at-end n z = rw (z, e)

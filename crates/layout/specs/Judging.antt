@@ -6,21 +6,26 @@ use lib.Dec.{eqb}
 use Rattle.meaning.specs.declared.Aligner.{Aligner}
 use Rattle.meaning.specs.Choice.{pick}
 use Rattle.meaning.specs.Tables.{Table, size, room}
-use Rattle.meaning.specs.Alignment.{fresh, world, staged, end-number}
+use Rattle.meaning.specs.Alignment.{fresh, world, staged, end-number, add-bitfield, add-dyn-bytes}
 use Rattle.meaning.specs.Feeding as meaning
 use Rattle.alignment.specs.declared.Called.{Called}
+use Rattle.alignment.specs.Answers.{judged}
 use Rattle.layout.specs.declared.Layout as answer
 use Rattle.layout.specs.declared.Request.{Request}
+use Rattle.layout.specs.declared.Request.the-variants.{Nothing, Bits, Dynamic, Refused}
 use Rattle.layout.specs.declared.Verdict.{Verdict}
-use Rattle.layout.specs.Requests.{request, served}
+use Rattle.layout.specs.Requests.{request}
 
 -- an answer that leaves the state as it is
 abbrev pub same : ℕ → Aligner → Called
 same n a = record { number = n; state = a }
 
--- a call's number and the state after it; neither depends on the symbol
-unfoldable pub judged : Request → Aligner → List ℕ → List ℕ → Called
-judged q a ps cs = let c = served q 0 (world a ps cs) in record { number = c .number; state = c .left .st }
+-- what the aligner would answer to a request, and the state that it would leave
+unfoldable pub foreseen : Request → Aligner → List ℕ → List ℕ → Called
+foreseen Nothing a ps cs = same 0 a
+foreseen (Bits v) a ps cs = judged (add-bitfield 0 v) a ps cs
+foreseen Dynamic a ps cs = judged (add-dyn-bytes 0) a ps cs
+foreseen (Refused n) a ps cs = same n a
 
 abbrev pub verdict : meaning.Fed → Verdict
 verdict x = record { number = x .number; place = x .place }
@@ -33,7 +38,7 @@ unfoldable pub judge : List ℕ → List ℕ → List ℕ → ℕ → ℕ → Al
 judge fs ps cs zero i a f =
     let n = end-number (world a ps cs) in
     record { number = n; place = pick (eqb n 0) 0 f }
-judge fs ps cs (suc n) i a f = then (judged (request fs i) a ps cs) i (λ b. judge fs ps cs n (i + 1) b (pick (staged a) f i))
+judge fs ps cs (suc n) i a f = then (foreseen (request fs i) a ps cs) i (λ b. judge fs ps cs n (i + 1) b (pick (staged a) f i))
 
 -- the fields are rows, and feeding them is accepted
 pub record Accepted (fs : List ℕ) (first count : ℕ) (ps cs : List ℕ) : Type 0 where
