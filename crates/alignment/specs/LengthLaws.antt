@@ -9,7 +9,6 @@ use Rattle.meaning.specs.declared.Aligner.{Aligner}
 use Rattle.meaning.specs.Choice.{pick}
 use Rattle.meaning.specs.Alignment.{World, world, settled, sound, due, bits-number, bytes-number, dyn-number, end-number, bits-done, chunk-done, Call, add-bitfield, add-bytes, add-dyn-bytes, align, call}
 use Rattle.alignment.specs.Answers.{judged}
-use Rattle.alignment.specs.NumberLaws.{Sound}
 
 -- the call with 0 for its symbol
 abbrev pub nameless : Call → Call
@@ -27,10 +26,6 @@ states {m = m} x x′ y y′ e f g = rw e (cases (eqb m 0))
     cases false = g
 
 module _ (a : Aligner) (ps cs ps′ cs′ : List ℕ) (p : length ps′ ≡ length ps) (q : length cs′ ≡ length cs) where
-  pub same-sound : Sound (world a ps′ cs′) → Sound (world a ps cs)
-  same-sound s =
-      record { narrow = s .narrow; ordered = s .ordered; in-placed = rw p at (s .in-placed); in-chunks = rw q at (s .in-chunks); none = s .none }
-
   pub same-end : end-number (world a ps′ cs′) ≡ end-number (world a ps cs)
   unfolding end-number sound
   same-end = rw (p, q)

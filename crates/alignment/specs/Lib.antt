@@ -1,9 +1,10 @@
 pub mod Answers
+pub mod Outcomes
 pub mod NumberLaws
 pub mod Total
 pub mod SoundLaws
 pub mod LengthLaws
 pub mod ByteAligner
-pub mod Told
+pub mod AlignerRows
 pub mod SameAligner
 pub mod SameWords

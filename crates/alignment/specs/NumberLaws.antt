@@ -14,7 +14,7 @@ pub differ : false ≡ true → ⊥
 differ e = let z : _≡_ {A = ℕ} 0 1 = cc in omega arith
 
 -- a number is 0: its first test did not hold, and the number of the tests after it is 0
-past : (b : Bool) (n x : ℕ) → ltb 0 n ≡ true → pick b n x ≡ 0 → (b ≡ false) × (x ≡ 0)
+pub past : (b : Bool) (n x : ℕ) → ltb 0 n ≡ true → pick b n x ≡ 0 → (b ≡ false) × (x ≡ 0)
 past true n x h e = let p : 0 < n = ltb-true 0 n h in absurd (omega arith)
 past false n x h e = (refl, e)
 

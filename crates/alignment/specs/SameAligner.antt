@@ -14,7 +14,7 @@ use Rattle.meaning.specs.Alignment.{fresh, World, world, settled, sound, due, n
 use Rattle.alignment.specs.NumberLaws.{Sound, sound-is}
 use Rattle.alignment.specs.SoundLaws.{sound-kept, sound-fresh}
 use Rattle.alignment.specs.ByteAligner.{Field, bytes, dyn-bytes, ByteAligner, Panic, total-too-wide, bytes-unaligned, not-divisible, bytes-too-wide, dyn-unaligned, not-aligned, Outcome, done, panic, new, is-empty, is-aligned, is-multiple-of-8, push-field, push-chunk, commit, try-commit-staged-chunk, perform}
-use Rattle.alignment.specs.Told.{fields, told, told-field, told-commit, told-chunk}
+use Rattle.alignment.specs.AlignerRows.{fields, told, told-field, told-commit, told-chunk}
 
 -- a panic as a refusal
 abbrev pub refusal : Panic → ℕ
@@ -59,7 +59,8 @@ record Agrees (ps cs : List ℕ) (b : ByteAligner) (same x : World) (n : ℕ) (o
 
 module _ {ps cs : List ℕ} {b : ByteAligner} {same x : World} where
   -- a test at which the Rust panics
-  test : same ≡ told ps cs b → (t : Bool) (p : Panic) {n : ℕ} {o : Outcome} → Agrees ps cs b same x n o → Agrees ps cs b same x (pick t (refusal p) n) (pick t (panic p) o)
+  test : same ≡ told ps cs b → (t : Bool) (p : Panic) {n : ℕ} {o : Outcome} → Agrees ps cs b same x n o
+      → Agrees ps cs b same x (pick t (refusal p) n) (pick t (panic p) o)
   test h false p g = g
   test h true p g = record { agree = λ f. (refl, left p ∙ h) }
     where

@@ -9,7 +9,7 @@ use Rattle.meaning.specs.Rows.{placed-size, chunk-size}
 use Rattle.meaning.specs.Alignment.{World}
 use Rattle.ast.specs.RowLaws.{Sized, length-puts, puts-all}
 use Rattle.alignment.specs.ByteAligner.{Field, Chunk, bitpack, bytes, dyn-bytes, ByteAligner}
-use Rattle.alignment.specs.Told.{words, chunk-rows, chunk-rows-length, placed-fields, told}
+use Rattle.alignment.specs.AlignerRows.{words, chunk-rows, chunk-rows-length, placed-fields, told}
 use Rattle.alignment.specs.SameAligner.{Same}
 
 field-sizes : (fs : List Field) → Sized placed-size (map words fs)

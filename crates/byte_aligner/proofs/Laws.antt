@@ -126,7 +126,8 @@ module _ (a : Aligner) (ps : List ℕ) (rs : List Chunk) (n : ℕ) (e : length r
   rows = flat-rows rs ∙ e
 
   -- the row was not taken
-  kept : (m : ℕ) (b : Aligner) (ps′ ws : List ℕ) → after (record { number = m; left = world (with-chunks b (near k n)) ps′ ws }) ≡ recorded m (with-chunks b k) ps′ rs
+  kept : (m : ℕ) (b : Aligner) (ps′ ws : List ℕ) → after (record { number = m; left = world (with-chunks b (near k n)) ps′ ws })
+      ≡ recorded m (with-chunks b k) ps′ rs
   unfolding plan-of
   kept m b ps′ ws = simp (near-quiet k n)
 
@@ -180,9 +181,11 @@ module _ (a : Aligner) (ps : List ℕ) (rs : List Chunk) (n : ℕ) (e : length r
     unfolding call call-to bits-done bits-to
     bits-after =
         rw (same-bits a ps (flat rs) n rows v)
-        (bits-cases (bits-number v (words h)) (eqb (bits-number v (words h)) 0) (due (a .width + v)) (λ t d. fewer (bits-fit v (words h) (eqb-true _ _ t) .chunk d)))
+        (bits-cases (bits-number v (words h)) (eqb (bits-number v (words h)) 0) (due (a .width + v))
+        (λ t d. fewer (bits-fit v (words h) (eqb-true _ _ t) .chunk d)))
 
-  chunk-after : (m kind s v : ℕ) → (m ≡ 0 → k < n) → after (meaning.settled m (chunk-done kind s v w) w) ≡ record { number = m; left = pick (eqb m 0) (chunk-to kind s v h) h }
+  chunk-after : (m kind s v : ℕ) → (m ≡ 0 → k < n) → after (meaning.settled m (chunk-done kind s v w) w)
+      ≡ record { number = m; left = pick (eqb m 0) (chunk-to kind s v h) h }
   unfolding chunk-done chunk-to
   chunk-after m kind s v f = cases (eqb m 0) (λ t. f (eqb-true _ _ t))
     where
@@ -192,7 +195,11 @@ module _ (a : Aligner) (ps : List ℕ) (rs : List Chunk) (n : ℕ) (e : length r
             left = pick t (world (with-chunks a (near k n + 1)) ps
                 (put chunk-size (near k n) (chunk-words kind 0 0 v s) blank)) w;
           })
-          ≡ record { number = m; left = pick t (held (with-chunks a (k + 1)) ps (set rs k (record { kind = kind; first = 0; count = 0; width = v; symbol = s }))) h }
+          ≡ record {
+            number = m;
+            left = pick t
+                (held (with-chunks a (k + 1)) ps (set rs k (record { kind = kind; first = 0; count = 0; width = v; symbol = s }))) h;
+          }
       cases true g = took (g refl) m a ps (record { kind = kind; first = 0; count = 0; width = v; symbol = s })
       cases false g = kept m a ps blank
 
@@ -213,26 +220,32 @@ due-room : (a : Aligner) (n : ℕ) (r : Called) (row : List ℕ) → plan-of a n
 unfolding plan-of
 due-room a n r row = cases (both (ltb (a .chunks) n) (ltb 0 (r .state .chunks))) (λ t. ltb-true _ _ (both-first _ _ t))
   where
-    cases : (t : Bool) → (t ≡ true → a .chunks < n) → pick t (plan true (a .chunks + 1) a r row) (plan false (a .chunks) a r row) .due ≡ true → pick t (plan true (a .chunks + 1) a r row) (plan false (a .chunks) a r row) .at < n
+    cases : (t : Bool) → (t ≡ true → a .chunks < n) → pick t (plan true (a .chunks + 1) a r row) (plan false (a .chunks) a r row) .due ≡ true
+        → pick t (plan true (a .chunks + 1) a r row) (plan false (a .chunks) a r row) .at < n
     cases true f e = f refl
     cases false f e = absurd (differ e)
 
 -- the plan that the code makes of what the core answered
-module _ (c : Call) (a : Aligner) (ps : List ℕ) (n : ℕ) (hold : (rs : List Chunk) (e : length rs ≡ n) → after a ps rs n e (call c (world (near-state a n) ps blank)) ≡ call-to c (held a ps rs)) where
-  plans : (r : Called) (ps′ row : List ℕ) → called r ps′ row ≡ call c (world (near-state a n) ps blank) → (p : Plan) → p ≡ plan-of a n r row → Plans c a ps n p ps′
+module _ (c : Call) (a : Aligner) (ps : List ℕ) (n : ℕ) (hold : (rs : List Chunk) (e : length rs ≡ n)
+    → after a ps rs n e (call c (world (near-state a n) ps blank)) ≡ call-to c (held a ps rs)) where
+  plans : (r : Called) (ps′ row : List ℕ) → called r ps′ row ≡ call c (world (near-state a n) ps blank) → (p : Plan) → p ≡ plan-of a n r row
+      → Plans c a ps n p ps′
   plans r ps′ row q p e = record {
     is = λ rs l. ap (λ (z : Plan). given z ps′ rs) e ∙ ap (after a ps rs n l) q ∙ hold rs l;
     fits = subst (λ (z : Plan). z .due ≡ true → z .at < n) (sym e) (due-room a n r row);
   }
 
 module _ (a : Aligner) (ps : List ℕ) (n : ℕ) (b : Aligner) (d : b ≡ near-state a n) (r : Called) (ps′ row : List ℕ) where
-  pub plans-bits : (s v : ℕ) → called r ps′ row ≡ call (add-bitfield s v) (world b ps blank) → (p : Plan) → p ≡ plan-of a n r row → Plans (add-bitfield s v) a ps n p ps′
+  pub plans-bits : (s v : ℕ) → called r ps′ row ≡ call (add-bitfield s v) (world b ps blank) → (p : Plan) → p ≡ plan-of a n r row
+      → Plans (add-bitfield s v) a ps n p ps′
   plans-bits s v q = plans (add-bitfield s v) a ps n (λ rs e. bits-after a ps rs n e s v) r ps′ row (rw d at q)
 
-  pub plans-bytes : (s v : ℕ) → called r ps′ row ≡ call (add-bytes s v) (world b ps blank) → (p : Plan) → p ≡ plan-of a n r row → Plans (add-bytes s v) a ps n p ps′
+  pub plans-bytes : (s v : ℕ) → called r ps′ row ≡ call (add-bytes s v) (world b ps blank) → (p : Plan) → p ≡ plan-of a n r row
+      → Plans (add-bytes s v) a ps n p ps′
   plans-bytes s v q = plans (add-bytes s v) a ps n (λ rs e. bytes-after a ps rs n e s v) r ps′ row (rw d at q)
 
-  pub plans-dyn : (s : ℕ) → called r ps′ row ≡ call (add-dyn-bytes s) (world b ps blank) → (p : Plan) → p ≡ plan-of a n r row → Plans (add-dyn-bytes s) a ps n p ps′
+  pub plans-dyn : (s : ℕ) → called r ps′ row ≡ call (add-dyn-bytes s) (world b ps blank) → (p : Plan) → p ≡ plan-of a n r row
+      → Plans (add-dyn-bytes s) a ps n p ps′
   plans-dyn s q = plans (add-dyn-bytes s) a ps n (λ rs e. dyn-after a ps rs n e s) r ps′ row (rw d at q)
 
 -- ---- the end
@@ -243,9 +256,14 @@ module _ (a : Aligner) (ps : List ℕ) (n : ℕ) (b : Aligner) (d : b ≡ near-s
 
   pub ends-refused : (r .number ≡ 0 → ⊥) → Ends a ps n r
   unfolding ended
-  ends-refused f = record { is = λ cs e. q ∙ cases (end-number (world b ps blank)) (end-number (world a ps cs)) (sym (ap (λ (z : Ended). z .number) q) ∙ number-is cs e) (λ z. f (number-is cs e ∙ z)) }
+  ends-refused f =
+      record {
+        is = λ cs e. q ∙ cases (end-number (world b ps blank)) (end-number (world a ps cs))
+            (sym (ap (λ (z : Ended). z .number) q) ∙ number-is cs e) (λ z. f (number-is cs e ∙ z));
+      }
     where
-      cases : (m m′ : ℕ) → m ≡ m′ → (m′ ≡ 0 → ⊥) → _≡_ {A = Ended} (record { number = m; chunks = pick (eqb m 0) (b .chunks) 0 }) (record { number = m′; chunks = pick (eqb m′ 0) (a .chunks) 0 })
+      cases : (m m′ : ℕ) → m ≡ m′ → (m′ ≡ 0 → ⊥) → _≡_ {A = Ended} (record { number = m; chunks = pick (eqb m 0) (b .chunks) 0 })
+          (record { number = m′; chunks = pick (eqb m′ 0) (a .chunks) 0 })
       cases m m′ g f = rw g (simp (ne-eqb m′ 0 f))
 
   pub ends-accepted : r .number ≡ 0 → Ends a ps n (record { number = 0; chunks = a .chunks })
@@ -256,6 +274,7 @@ module _ (a : Aligner) (ps : List ℕ) (n : ℕ) (b : Aligner) (d : b ≡ near-s
       cases m g = rw g refl
 
 -- ---- a planned call, once its record is stored
-pub stored : (c : Call) (a : Aligner) (ps : List ℕ) (rs : List Chunk) (p : Plan) (ps′ : List ℕ) (rs′ : List Chunk) → Plans c a ps (length rs) p ps′ → rs′ ≡ put-if (p .due) rs (p .at) (p .chunk)
+pub stored : (c : Call) (a : Aligner) (ps : List ℕ) (rs : List Chunk) (p : Plan) (ps′ : List ℕ) (rs′ : List Chunk) → Plans c a ps (length rs) p ps′
+    → rs′ ≡ put-if (p .due) rs (p .at) (p .chunk)
     → recorded (p .number) (p .state) ps′ rs′ ≡ call-to c (held a ps rs)
 stored c a ps rs p ps′ rs′ s e = ap (λ (l : List Chunk). recorded (p .number) (p .state) ps′ l) e ∙ s .is rs refl

@@ -1,5 +1,4 @@
-mod Lent
-mod LentOne
+mod Words
+mod StateWalk
 mod Laws
-mod To
-mod ToOne
+mod RecordWalk

@@ -1,4 +1,5 @@
-pub mod Lent
+pub mod Answers
 pub mod Records
 pub mod Plans
 pub mod SameRecords
+pub mod Outcomes

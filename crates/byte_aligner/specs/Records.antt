@@ -10,7 +10,7 @@ use Rattle.meaning.specs.Rows.{placed-size, chunk-words, placed-words}
 use Rattle.meaning.specs.Alignment.{World, world, due, bits-number, bytes-number, dyn-number, end-number, Call, add-bitfield, add-bytes, add-dyn-bytes, align}
 use Rattle.alignment.specs.Answers.{ended}
 use Rattle.byte_aligner.specs.declared.Chunk.{Chunk}
-use Rattle.byte_aligner.specs.Lent.{Finished, finished}
+use Rattle.byte_aligner.specs.Answers.{Finished, finished}
 
 -- a record's row, and the words of records
 abbrev pub row : Chunk → List ℕ

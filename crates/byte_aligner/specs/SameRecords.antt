@@ -14,7 +14,7 @@ use Rattle.meaning.specs.Rows.{chunk-size}
 use Rattle.meaning.specs.Alignment.{World, world, due, bits-number, bytes-number, dyn-number, end-number, bits-done, chunk-done, Called, settled, call, Call, add-bitfield, add-bytes, add-dyn-bytes, align}
 use Rattle.ast.specs.RowLaws.{put-fits, put-short}
 use Rattle.byte_aligner.specs.declared.Chunk.{Chunk}
-use Rattle.byte_aligner.specs.Lent.{align-at}
+use Rattle.byte_aligner.specs.Answers.{align-at}
 use Rattle.byte_aligner.specs.Records.{row, flat, Held, held, words, bits-to, chunk-to, Recorded, settled-to, call-to, align-on}
 
 pub flat-length : (rs : List Chunk) → length (flat rs) ≡ length rs * chunk-size

@@ -5,7 +5,7 @@ ghost use mathlib.Core.Bool.{true};
 ghost use Prim.Native.Nat.{_<_};
 ghost use lib.ListN.{length};
 ghost use Rattle.meaning.specs.Alignment.{world, call, add-bitfield, add-bytes, add-dyn-bytes};
-ghost use Rattle.byte_aligner.specs.Lent.{answered, finished, align-at};
+ghost use Rattle.byte_aligner.specs.Answers.{answered, finished, align-at};
 ghost use Rattle.byte_aligner.specs.Records.{held, recorded, call-to, align-on};
 ghost use Rattle.byte_aligner.specs.Plans.{put-if, near-state, plan-of, Plans, Ends};
 use alignment::Called;

@@ -69,13 +69,15 @@ module _ (fs : List ℕ) where
   went zero i w q e = refl
   went (suc n) i w q e = absurd (omega arith)
 
-  goes : (n m i : ℕ) (w : World) → n ≡ suc m → feed-fields fs n i w .number ≡ 0 → feed-fields fs n i w ≡ feed-fields fs m (i + 1) (served (request fs i) i w .left)
+  goes : (n m i : ℕ) (w : World) → n ≡ suc m → feed-fields fs n i w .number ≡ 0 → feed-fields fs n i w
+      ≡ feed-fields fs m (i + 1) (served (request fs i) i w .left)
   unfolding feed-fields
   goes n m i w l z = rw l (went (feed-field fs i w .number) i (feed-field fs i w .left) (λ v. feed-fields fs m (i + 1) v) (rw l at z) ∙ rw (feeds i w fs))
 
   -- x is the whole, which is accepted
   module _ (end i : ℕ) (w : World) (x : Fed) (e : feed-fields fs (end - i) i w ≡ x) where
-    pub place-turn : x .number ≡ 0 → i < end → (q : Request) → q ≡ request fs i → (v : World) → v ≡ served q i w .left → feed-fields fs (end - (i + 1)) (i + 1) v ≡ x
+    pub place-turn : x .number ≡ 0 → i < end → (q : Request) → q ≡ request fs i → (v : World) → v ≡ served q i w .left
+        → feed-fields fs (end - (i + 1)) (i + 1) v ≡ x
     place-turn z l q eq v ev = rw (ev, eq) (sym (goes (end - i) (end - (i + 1)) i w (omega arith) (rw e z)) ∙ e)
 
     pub place-end : end ≤ i → w ≡ x .left

@@ -2,16 +2,15 @@
 use Prim.Native.Nat.{ℕ, zero, suc, _+_, _<_, _≤_}
 use mathlib.Core.Path.{_≡_, refl, sym, ap, _∙_}
 use mathlib.Core.List.{List}
-use mathlib.Core.Bool.{Bool, true, false}
 use native.Mathlib.Omega.{arith}
 use lib.Dec.{ltb, leb}
-use borrow.Author.Tests.{lt-ltb, le-ltb, le-leb, lt-leb, ne-eqb, ltb-true, ltb-false, leb-false}
+use borrow.Author.Tests.{lt-ltb, le-ltb, le-leb, lt-leb, ne-eqb, ltb-false, leb-false}
 use Rattle.meaning.specs.declared.Aligner.{Aligner}
-use Rattle.meaning.specs.Choice.{pick}
 use Rattle.meaning.specs.Tables.{Table, size, room}
 use Rattle.meaning.specs.Rows.{row-kind, declaration-first, declaration-count}
 use Rattle.meaning.specs.Alignment.{fresh, world}
 use Rattle.meaning.specs.Feeding.{declaration-word, Fed, laid, feed-fields, feed-number, layout}
+use Rattle.alignment.specs.NumberLaws.{past}
 use Rattle.layout.specs.declared.Verdict.{Verdict}
 use Rattle.layout.specs.Judging.{verdict, Accepted}
 
@@ -40,14 +39,10 @@ module _ (ds fs : List ℕ) (d : ℕ) where
         unfolding feed-number
         number-0 l = rw (← e, ← p, ← q) (simp (lt-leb _ _ h, le-ltb _ _ i, le-ltb _ _ j, le-ltb _ _ l))
 
--- a number is 0: its first test did not hold, and the number of the tests after it is 0
-past : (b : Bool) (n x : ℕ) → ltb 0 n ≡ true → pick b n x ≡ 0 → (b ≡ false) × (x ≡ 0)
-past true n x h e = let p : 0 < n = ltb-true 0 n h in absurd (omega arith)
-past false n x h e = (refl, e)
-
 -- ---- the whole
 module _ (ps cs : List ℕ) (x : Fed) where
-  laid-refused : (v : Verdict) → v ≡ verdict x → (v .number ≡ 0 → ⊥) → record { number = v .number; place = v .place; placed = 0; chunks = 0; ps = ps; cs = cs } ≡ laid x ps cs
+  laid-refused : (v : Verdict) → v ≡ verdict x → (v .number ≡ 0 → ⊥)
+      → record { number = v .number; place = v .place; placed = 0; chunks = 0; ps = ps; cs = cs } ≡ laid x ps cs
   laid-refused v e h =
       let g : x .number ≡ 0 → ⊥ = λ z. h (ap (λ (y : Verdict). y .number) e ∙ z) in
       rw e (simp (ne-eqb _ _ g))
@@ -86,7 +81,8 @@ module _ (ds fs : List ℕ) (d : ℕ) (n : ℕ) (e : n ≡ feed-number ds fs d) 
       unfolding layout
       opens = rw (sym e ∙ z, layout, p, q)
 
-      pub refused-fields : (v .number ≡ 0 → ⊥) → record { number = v .number; place = v .place; placed = 0; chunks = 0; ps = ps; cs = cs } ≡ layout ds fs d ps cs
+      pub refused-fields : (v .number ≡ 0 → ⊥) → record { number = v .number; place = v .place; placed = 0; chunks = 0; ps = ps; cs = cs }
+          ≡ layout ds fs d ps cs
       refused-fields h = laid-refused ps cs (feed-fields fs count first (world fresh ps cs)) v ev h ∙ sym opens
 
       module _ (h : v .number ≡ 0) where

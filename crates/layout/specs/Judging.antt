@@ -1,6 +1,6 @@
 -- What the judging pass answers, and the answer of the whole with the words that it leaves.
 use Prim.Native.Nat.{ℕ, zero, suc, _+_, _≤_}
-use mathlib.Core.Path.{_≡_, ap}
+use mathlib.Core.Path.{_≡_, refl}
 use mathlib.Core.List.{List}
 use lib.Dec.{eqb}
 use Rattle.meaning.specs.declared.Aligner.{Aligner}
@@ -10,6 +10,7 @@ use Rattle.meaning.specs.Alignment.{fresh, world, staged, end-number, add-bitfi
 use Rattle.meaning.specs.Feeding as meaning
 use Rattle.alignment.specs.declared.Called.{Called}
 use Rattle.alignment.specs.Answers.{judged}
+use Rattle.alignment.specs.Outcomes.{one-outcome}
 use Rattle.layout.specs.declared.Layout as answer
 use Rattle.layout.specs.declared.Request.{Request}
 use Rattle.layout.specs.declared.Request.the-variants.{Nothing, Bits, Dynamic, Refused}
@@ -50,9 +51,15 @@ abbrev pub answered : answer.Layout → List ℕ → List ℕ → meaning.Layout
 answered r ps cs =
     record { number = r .number; place = r .place; placed = r .placed; chunks = r .chunks; ps = ps; cs = cs }
 
--- it settles each of them: no two outcomes meet one equation
-abbrev alone : meaning.Layout → answer.Layout
-alone x = record { number = x .number; place = x .place; placed = x .placed; chunks = x .chunks }
+-- ---- no two outcomes satisfy an equation with it
+abbrev Outcome : Type 0
+Outcome = answer.Layout × (List ℕ × List ℕ)
 
-pub settles : (r q : answer.Layout) (ps cs ps′ cs′ : List ℕ) → answered r ps cs ≡ answered q ps′ cs′ → (r ≡ q) × ((ps ≡ ps′) × (cs ≡ cs′))
-settles r q ps cs ps′ cs′ e = (ap alone e, (ap (λ (x : meaning.Layout). x .ps) e, ap (λ (x : meaning.Layout). x .cs) e))
+abbrev pack : Outcome → meaning.Layout
+pack o = answered (o .0) (o .1 .0) (o .1 .1)
+
+abbrev unpack : meaning.Layout → Outcome
+unpack x = (record { number = x .number; place = x .place; placed = x .placed; chunks = x .chunks }, (x .ps, x .cs))
+
+pub one-layout : (o p : Outcome) {z : meaning.Layout} → pack o ≡ z → pack p ≡ z → o ≡ p
+one-layout = one-outcome pack unpack (λ o. refl)

@@ -36,5 +36,6 @@ returns-3 c =
 pub add-bitfield-spec : {M : Type 1} → statement M
 add-bitfield-spec =
     tie.close
-    (tie.spec (λ c κs. search needs) (λ c. search needs) (λ c. search needs) returns add-total (λ c κs. search needs) (λ c κs. search needs) sub-count (λ c κs. search needs) (λ c. search needs) (λ c. search needs)
+    (tie.spec (λ c κs. search needs) (λ c. search needs) (λ c. search needs) returns add-total (λ c κs. search needs)
+    (λ c κs. search needs) sub-count (λ c κs. search needs) (λ c. search needs) (λ c. search needs)
     returns-2 (λ c. search needs) (λ c. search needs) returns-3)

@@ -18,13 +18,23 @@ returns-3 : tie.Need-returns-3
 returns-3 c = bits-13 _ _ (c .before .before .before .before .before .sound-number .ensures) (omega arith) _ (omega arith) (omega arith)
 
 returns-4 : tie.Need-returns-4
-returns-4 c = bits-13′ _ _ (c .before .before .before .before .before .before .before .before .before .before .sound-number .ensures) (omega arith) _ (omega arith) (omega arith) _ (c .before .before .before .is-due .ensures) (c .before .before .if4 .taken) (omega arith)
+returns-4 c =
+    let i = c .before .before .before in
+    let s = i .before .before .before .before .before .before .before in
+    bits-13′ _ _ (s .sound-number .ensures) (omega arith) _ (omega arith) (omega arith) _ (i .is-due .ensures) (c .before .before .if4 .taken)
+    (omega arith)
 
 returns-5 : tie.Need-returns-5
-returns-5 c = bits-0 _ _ (c .before .before .before .before .before .before .before .before .before .before .sound-number .ensures) (omega arith) _ (omega arith) (omega arith) _ (c .before .before .before .is-due .ensures) (c .before .before .if4 .taken) (omega arith)
+returns-5 c =
+    let i = c .before .before .before in
+    let s = i .before .before .before .before .before .before .before in
+    bits-0 _ _ (s .sound-number .ensures) (omega arith) _ (omega arith) (omega arith) _ (i .is-due .ensures) (c .before .before .if4 .taken)
+    (omega arith)
 
 returns-6 : tie.Need-returns-6
-returns-6 c = bits-0′ _ _ (c .before .before .before .before .before .before .before .before .sound-number .ensures) (omega arith) _ (omega arith) (omega arith) _ (c .before .is-due .ensures) (c .if4 .left)
+returns-6 c =
+    let s = c .before .before .before .before .before .before .before .before in
+    bits-0′ _ _ (s .sound-number .ensures) (omega arith) _ (omega arith) (omega arith) _ (c .before .is-due .ensures) (c .if4 .left)
 
 pub bits-number-spec : {M : Type 1} → statement M
 bits-number-spec =

@@ -12,10 +12,16 @@ returns-2 : tie.Need-returns-2
 returns-2 c = dyn-10 _ _ (c .before .before .before .sound-number .ensures) (omega arith) _ (c .before .is-aligned .ensures) (c .if2 .taken)
 
 returns-3 : tie.Need-returns-3
-returns-3 c = dyn-13 _ _ (c .before .before .before .before .before .sound-number .ensures) (omega arith) _ (c .before .before .before .is-aligned .ensures) (c .before .before .if2 .left) (omega arith)
+returns-3 c =
+    let i = c .before .before .before in
+    let s = i .before .before in
+    dyn-13 _ _ (s .sound-number .ensures) (omega arith) _ (i .is-aligned .ensures) (c .before .before .if2 .left) (omega arith)
 
 returns-4 : tie.Need-returns-4
-returns-4 c = dyn-0 _ _ (c .before .before .before .before .before .sound-number .ensures) (omega arith) _ (c .before .before .before .is-aligned .ensures) (c .before .before .if2 .left) (omega arith)
+returns-4 c =
+    let i = c .before .before .before in
+    let s = i .before .before in
+    dyn-0 _ _ (s .sound-number .ensures) (omega arith) _ (i .is-aligned .ensures) (c .before .before .if2 .left) (omega arith)
 
 pub dyn-number-spec : {M : Type 1} → statement M
 dyn-number-spec =

@@ -1,9 +1,10 @@
--- `byte_aligner::add_bytes_to` meets its contract: the walk of `To.antt`, at `plan_bytes`.
+-- `byte_aligner::add_bytes_to` meets its contract: the walk of `RecordWalk.antt` over two words, at `plan_bytes`.
 use contract.Running.{givenOf, tables, tablesOf}
 use denote.Triple.Spec.{tripleOf}
 use denote.Triple.Table.{entered, cited}
 use Rattle.meaning.specs.Alignment.{add-bytes}
-use Rattle.byte_aligner.proofs.To.{Planned, StoreIf, meets}
+use Rattle.byte_aligner.proofs.Words.{Rule}
+use Rattle.byte_aligner.proofs.RecordWalk.{Planned, StoreIf, meets}
 use Rattle.byte_aligner.proofs.plan_bytes.Symbol as plan-def
 use Rattle.byte_aligner.proofs.plan_bytes.Symbol.{name as #byte-aligner·plan-bytes}
 use Rattle.byte_aligner.proofs.plan_bytes.Met as plan-thm
@@ -15,11 +16,16 @@ use Rattle.byte_aligner.proofs.add_bytes_to as f
 use Rattle.byte_aligner.proofs.add_bytes_to.Statement as stated
 use Rattle.byte_aligner.proofs.add_bytes_to.Code as code
 
+abbrev rule : Rule 2
+rule ws = add-bytes (ws .0) (ws .1 .0)
+
 pub add-bytes-to-spec : {M : Type 1} → stated.statement M
 unfolding code.routine tablesOf
 add-bytes-to-spec 𝓤 H 𝓜 𝓖 𝓡 =
     entered 𝓤 H (tripleOf 𝓤 H (𝓖 .A) f.signature (f.spec 𝓤 H (𝓖 .A) (𝓜 .mem) (𝓡 .run)))
     (tables 𝓤 H 𝓜 𝓡 code.env .C) (tables 𝓤 H 𝓜 𝓡 code.env .Λ) #byte-aligner·add-bytes-to code.function (code.unfolded 𝓤 H 𝓜 𝓡)
-    (meets 𝓤 H (𝓖 .A) (givenOf 𝓤 H 𝓜 𝓖) #byte-aligner·plan-bytes add-bytes (𝓜 .mem) (𝓡 .run) (tablesOf 𝓤 H 𝓜 (tables 𝓤 H 𝓜 𝓡 code.env))
-    (cited 𝓤 H (Planned add-bytes 𝓤 H (𝓖 .A)) 𝓜 𝓡 code.env #byte-aligner·plan-bytes plan-def.routine code.calls-byte-aligner·plan-bytes (plan-thm.met 𝓤 H 𝓜 𝓖 𝓡))
-    (cited 𝓤 H (StoreIf 𝓤 H (𝓖 .A) (𝓜 .mem) (𝓡 .run)) 𝓜 𝓡 code.env #byte-aligner·store-if store-def.routine code.calls-byte-aligner·store-if (store-thm.met 𝓤 H 𝓜 𝓖 𝓡)))
+    (meets 𝓤 H (𝓖 .A) (givenOf 𝓤 H 𝓜 𝓖) 2 #byte-aligner·plan-bytes rule (𝓜 .mem) (𝓡 .run) (tablesOf 𝓤 H 𝓜 (tables 𝓤 H 𝓜 𝓡 code.env))
+    (cited 𝓤 H (Planned 2 rule 𝓤 H (𝓖 .A)) 𝓜 𝓡 code.env #byte-aligner·plan-bytes plan-def.routine
+    code.calls-byte-aligner·plan-bytes (plan-thm.met 𝓤 H 𝓜 𝓖 𝓡))
+    (cited 𝓤 H (StoreIf 𝓤 H (𝓖 .A) (𝓜 .mem) (𝓡 .run)) 𝓜 𝓡 code.env #byte-aligner·store-if store-def.routine
+    code.calls-byte-aligner·store-if (store-thm.met 𝓤 H 𝓜 𝓖 𝓡)))

@@ -1,9 +1,10 @@
--- `byte_aligner::add_dyn_bytes` meets its contract: the one walk of `LentOne.antt`, at `alignment::add_dyn_bytes`.
+-- `byte_aligner::add_dyn_bytes` meets its contract: the walk of `StateWalk.antt` over one word, at `alignment::add_dyn_bytes`.
 use contract.Running.{givenOf, tables, tablesOf}
 use denote.Triple.Spec.{tripleOf}
 use denote.Triple.Table.{entered, cited}
 use Rattle.meaning.specs.Alignment.{add-dyn-bytes}
-use Rattle.byte_aligner.proofs.LentOne.{Core, meets}
+use Rattle.byte_aligner.proofs.Words.{Rule}
+use Rattle.byte_aligner.proofs.StateWalk.{Core, meets}
 use Rattle.alignment.proofs.add_dyn_bytes.Symbol as core-def
 use Rattle.alignment.proofs.add_dyn_bytes.Symbol.{name as #alignment·add-dyn-bytes}
 use Rattle.alignment.proofs.add_dyn_bytes.Met as core-thm
@@ -12,10 +13,14 @@ use Rattle.byte_aligner.proofs.add_dyn_bytes as f
 use Rattle.byte_aligner.proofs.add_dyn_bytes.Statement as stated
 use Rattle.byte_aligner.proofs.add_dyn_bytes.Code as code
 
+abbrev rule : Rule 1
+rule ws = add-dyn-bytes (ws .0)
+
 pub add-dyn-bytes-spec : {M : Type 1} → stated.statement M
 unfolding code.routine tablesOf
 add-dyn-bytes-spec 𝓤 H 𝓜 𝓖 𝓡 =
     entered 𝓤 H (tripleOf 𝓤 H (𝓖 .A) f.signature (f.spec 𝓤 H (𝓖 .A) (𝓜 .mem) (𝓡 .run)))
     (tables 𝓤 H 𝓜 𝓡 code.env .C) (tables 𝓤 H 𝓜 𝓡 code.env .Λ) #byte-aligner·add-dyn-bytes code.function (code.unfolded 𝓤 H 𝓜 𝓡)
-    (meets 𝓤 H (𝓖 .A) (givenOf 𝓤 H 𝓜 𝓖) #alignment·add-dyn-bytes add-dyn-bytes (tablesOf 𝓤 H 𝓜 (tables 𝓤 H 𝓜 𝓡 code.env))
-    (cited 𝓤 H (Core add-dyn-bytes 𝓤 H (𝓖 .A)) 𝓜 𝓡 code.env #alignment·add-dyn-bytes core-def.routine code.calls-alignment·add-dyn-bytes (core-thm.met 𝓤 H 𝓜 𝓖 𝓡)))
+    (meets 𝓤 H (𝓖 .A) (givenOf 𝓤 H 𝓜 𝓖) 1 #alignment·add-dyn-bytes rule (tablesOf 𝓤 H 𝓜 (tables 𝓤 H 𝓜 𝓡 code.env))
+    (cited 𝓤 H (Core 1 rule 𝓤 H (𝓖 .A)) 𝓜 𝓡 code.env #alignment·add-dyn-bytes core-def.routine code.calls-alignment·add-dyn-bytes
+    (core-thm.met 𝓤 H 𝓜 𝓖 𝓡)))

@@ -1,4 +1,5 @@
--- `byte_aligner::align` meets its contract: a walk of its MIR, by hand. The borrow of the state is opened, the state is copied out and passed on with both tables, and the borrow is closed at the state as it came.
+-- `byte_aligner::align` meets its contract: a walk of its MIR, by hand. The borrow of the state is opened, the state is copied out and passed on
+-- with both tables, and the borrow is closed at the state as it came.
 use mathlib.Core.Path.{_≡_, refl, ap}
 use Prim.Native.Nat.{ℕ}
 use mathlib.Core.List.{[], _∷_, List}
@@ -40,7 +41,7 @@ use denote.Exit.{yes}
 use Rattle.meaning.specs.declared.Aligner.{Aligner}
 use Rattle.alignment.specs.declared.Ended.{Ended}
 use Rattle.alignment.specs.Answers.{ended}
-use Rattle.byte_aligner.specs.Lent.{finished}
+use Rattle.byte_aligner.specs.Answers.{finished}
 use Rattle.meaning.proofs.Aligner as T
 use Rattle.meaning.proofs.Aligner.Laws as T′
 use Rattle.alignment.proofs.Ended as S
@@ -61,12 +62,19 @@ abbrev Arg : Type 0
 Arg = RefT Aligner × (Words × (Words × Unit {0}))
 
 abbrev stayed : Stays (f.ended .signature .params) (f.ended .kept)
-stayed = (stay-ref (0 ∷ []) tt (plain (λ _. T.the-row)), (stay-dropped (shrSliceOf (1 ∷ []) tt (plain (λ _. u64))) yes, (stay-dropped (shrSliceOf (2 ∷ []) tt (plain (λ _. u64))) yes, tt)))
+stayed = (
+  stay-ref (0 ∷ []) tt (plain (λ _. T.the-row)),
+  (
+    stay-dropped (shrSliceOf (1 ∷ []) tt (plain (λ _. u64))) yes,
+    (stay-dropped (shrSliceOf (2 ∷ []) tt (plain (λ _. u64))) yes, tt),
+  ),
+)
 
 abbrev Core : {M : Type 1} (𝓤 : URA M) (H : Heap 𝓤) (A : Atoms 𝓤) (at-mem : Memory → SProp 𝓤) (run : Routine → Fun 𝓤) → Contract 𝓤
 Core 𝓤 H A at-mem run = tripleOf 𝓤 H A core.signature (core.spec 𝓤 H A at-mem run)
 
-module _ {M : Type 1} (𝓤 : URA M) (H : Heap 𝓤) (A : Atoms 𝓤) (W : Given 𝓤 H A) (at-mem : Memory → SProp 𝓤) (run : Routine → Fun 𝓤) (κ κ₁ κ₂ : Lft) (q q₁ q₂ : Share) (b o : ℕ) (γ : GName) (h : Aligner) (x₁ x₂ : Words) where
+module _ {M : Type 1} (𝓤 : URA M) (H : Heap 𝓤) (A : Atoms 𝓤) (W : Given 𝓤 H A) (at-mem : Memory → SProp 𝓤) (run : Routine → Fun 𝓤) (κ κ₁ κ₂ : Lft)
+    (q q₁ q₂ : Share) (b o : ℕ) (γ : GName) (h : Aligner) (x₁ x₂ : Words) where
   abbrev a : Arg
   a = (record { ptr = (b, o); name = γ; now = h }, (x₁, (x₂, tt)))
 
@@ -103,39 +111,51 @@ module _ {M : Type 1} (𝓤 : URA M) (H : Heap 𝓤) (A : Atoms 𝓤) (W : Given
   abbrev rest : Fml
   rest = owns (ShrSlice (named 1) κ₁ u64 ∷ ShrSlice (named 2) κ₂ u64 ∷ []) (a .1) (vals .1)
 
-  goes : Is T.the-row h (mach ∷ []) → ent 𝓤 (sep 𝓤 (sep 𝓤 (A .lft κ₁ q₁) (sep 𝓤 (A .lft κ₂ q₂) (sem 𝓤 H A ftrue))) (sem 𝓤 H A rest)) (Core 𝓤 H A at-mem run .pre to-core)
+  goes : Is T.the-row h (mach ∷ []) → ent 𝓤 (sep 𝓤 (sep 𝓤 (A .lft κ₁ q₁) (sep 𝓤 (A .lft κ₂ q₂) (sem 𝓤 H A ftrue))) (sem 𝓤 H A rest))
+      (Core 𝓤 H A at-mem run .pre to-core)
   goes g =
-      qed W ((‵ (flft κ₁ q₁) ⊛ ‵ (flft κ₂ q₂) ⊛ ‵ ftrue) ∷ ‵ rest ∷ []) ∵ owned ! T.the-row (Is T.the-row) ((LL.makes T.the-type T′.the-plain) 𝓤 H A) h _ g $ move ! (0 ∷ 2 ∷ []) $ fjoin ! $ move ! (1 ∷ 0 ∷ []) $ join ! $ frame ! $ done !
+      qed W ((‵ (flft κ₁ q₁) ⊛ ‵ (flft κ₂ q₂) ⊛ ‵ ftrue) ∷ ‵ rest ∷ []) ∵ owned ! T.the-row (Is T.the-row)
+      ((LL.makes T.the-type T′.the-plain) 𝓤 H A) h _ g $ move ! (0 ∷ 2 ∷ []) $ fjoin ! $ move ! (1 ∷ 0 ∷ []) $ join ! $ frame ! $ done !
 
   said : (r : Ended) → ent 𝓤 (ensured 𝓤 H A core.ended (core.clauses 𝓤 H A at-mem run) (κ₁, (κ₂, tt)) passed tt r) (fact 𝓤 (r ≡ ended h (x₁ .now) (x₂ .now)))
   said r = exE 𝓤 _ (λ ws. snd∗ 𝓤 (sem 𝓤 H A (lasts core.ended (κ₁, (κ₂, tt)) passed ws)) (fact 𝓤 (r ≡ ended h (x₁ .now) (x₂ .now))))
 
   exits : (r : Ended) (u : Val) → r ≡ ended h (x₁ .now) (x₂ .now)
-      → ent 𝓤 (⋆ 𝓤 H A (‵ (fobs γ (T.the-row .coded .code h)) ∷ ‵ (fbor κ (Body (mem T.the-row) b o γ)) ∷ ‵ (flft κ q) ∷ (‵ (flft κ₁ q₁) ⊛ ‵ (flft κ₂ q₂) ⊛ ‵ ftrue) ∷ ‵ (S.the-row .own r (u ∷ [])) ∷ [])) (Post u)
+      → ent 𝓤 (⋆ 𝓤 H A (‵ (fobs γ (T.the-row .coded .code h)) ∷ ‵ (fbor κ (Body (mem T.the-row) b o γ)) ∷ ‵ (flft κ q)
+      ∷ (‵ (flft κ₁ q₁) ⊛ ‵ (flft κ₂ q₂) ⊛ ‵ ftrue) ∷ ‵ (S.the-row .own r (u ∷ [])) ∷ [])) (Post u)
   exits r u e =
-      qed W (‵ (fobs γ (T.the-row .coded .code h)) ∷ ‵ (fbor κ (Body (mem T.the-row) b o γ)) ∷ ‵ (flft κ q) ∷ (‵ (flft κ₁ q₁) ⊛ ‵ (flft κ₂ q₂) ⊛ ‵ ftrue) ∷ ‵ (S.the-row .own r (u ∷ [])) ∷ []) ∵
-      suffices ! _ (ends-at 𝓤 H A f.ended stayed (f.clauses 𝓤 H A at-mem run) W (((κ, (κ₁, (κ₂, tt))), (q, (q₁, (q₂, tt))), tt, a, vals), tt) u r (h, (tt, (tt, tt))) (tt, (tt, (tt, tt)))) $ says ! (ap (λ (z : Ended). finished z h) e) $
+      qed W (‵ (fobs γ (T.the-row .coded .code h)) ∷ ‵ (fbor κ (Body (mem T.the-row) b o γ)) ∷ ‵ (flft κ q)
+      ∷ (‵ (flft κ₁ q₁) ⊛ ‵ (flft κ₂ q₂) ⊛ ‵ ftrue) ∷ ‵ (S.the-row .own r (u ∷ [])) ∷ []) ∵
+      suffices ! _ (ends-at 𝓤 H A f.ended stayed (f.clauses 𝓤 H A at-mem run) W (((κ, (κ₁, (κ₂, tt))), (q, (q₁, (q₂, tt))), tt, a, vals), tt) u r
+      (h, (tt, (tt, tt))) (tt, (tt, (tt, tt)))) $ says ! (ap (λ (z : Ended). finished z h) e) $
       move ! (2 ∷ 3 ∷ []) $ join ! $ frame ! $ feqI ! (List Val) (vptr b o ∷ []) (vptr b o ∷ []) refl $ fjoin3 ! $
       -- [the state's borrow; the answer's]
       nothing ! $ nothing ! $ fjoin ! $ nothing ! $ fjoin ! $ move ! (1 ∷ 0 ∷ []) $ fjoin ! $ done !
 
   module _ (C : Calls 𝓤 H) (Λ : Loops 𝓤 H) (fm : FmC 𝓤 H (W .laws) C) (known : Triple 𝓤 (C #alignment·align) (Core 𝓤 H A at-mem run)) where
-    walk : Room u64 (length (x₁ .now)) → Room u64 (length (x₂ .now)) → ent 𝓤 (onEntry 𝓤 H A f.signature (κ, (κ₁, (κ₂, tt))) (q, (q₁, (q₂, tt))) a vals) (WpFn 𝓤 H C Λ code.function (vptr b o ∷ v₁ ∷ v₂ ∷ []) Post)
+    walk : Room u64 (length (x₁ .now)) → Room u64 (length (x₂ .now)) → ent 𝓤 (onEntry 𝓤 H A f.signature (κ, (κ₁, (κ₂, tt)))
+        (q, (q₁, (q₂, tt))) a vals) (WpFn 𝓤 H C Λ code.function (vptr b o ∷ v₁ ∷ v₂ ∷ []) Post)
     walk r₁ r₂ =
-        qed W ((‵ (flft κ q) ⊛ ‵ (flft κ₁ q₁) ⊛ ‵ (flft κ₂ q₂) ⊛ ‵ ftrue) ∷ ‵ (owns (MutRef (named 0) κ T.the-row ∷ ShrSlice (named 1) κ₁ u64 ∷ ShrSlice (named 2) κ₂ u64 ∷ []) a vals) ∷ []) ∵
+        qed W ((‵ (flft κ q) ⊛ ‵ (flft κ₁ q₁) ⊛ ‵ (flft κ₂ q₂) ⊛ ‵ ftrue) ∷ ‵ (owns
+        (MutRef (named 0) κ T.the-row ∷ ShrSlice (named 1) κ₁ u64 ∷ ShrSlice (named 2) κ₂ u64 ∷ []) a vals) ∷ []) ∵
         enter ! C Λ code.function (vptr b o ∷ v₁ ∷ v₂ ∷ []) _ $
         alloc1 ! (λ l₀. alloc1 ! (λ l₁. alloc1 ! (λ l₂. alloc1 ! (λ l₃. alloc1 ! (λ l₄. alloc0 ! $ params1 ! $
-        pass1 ! (init ! 6 refl (tt, tt)) $ pass1 ! (init ! 4 refl (tt, (tt, (record { fits = r₁ .0 }, tt)))) $ pass1 ! (init ! 2 refl (tt, (tt, (record { fits = r₂ .0 }, tt)))) $ pass0 ! $
+        pass1 ! (init ! 6 refl (tt, tt)) $ pass1 ! (init ! 4 refl (tt, (tt, (record { fits = r₁ .0 }, tt)))) $
+        pass1 ! (init ! 2 refl (tt, (tt, (record { fits = r₂ .0 }, tt)))) $ pass0 ! $
         -- [_4; …; _1; …; room for _0; …; the tokens (10); what the parameters own (11)]: the state's borrow is opened
         move ! (11 ∷ []) $ fsplit ! $ fsplit3 ! $ drop ! $ move ! (13 ∷ []) $ split ! $ move ! (2 ∷ 3 ∷ 0 ∷ []) $
-        opens ! tt T.the-row {h = h} b o (λ vs. spelt ! T.the-row (Is T.the-row) (shows 𝓤 H A T.the-row) (LL.vals T.the-type T′.the-laws) (LL.tells T.the-type T′.the-laws) fullShare h vs b o $
+        opens ! tt T.the-row {h = h} b o (λ vs. spelt ! T.the-row (Is T.the-row) (shows 𝓤 H A T.the-row) (LL.vals T.the-type T′.the-laws)
+        (LL.tells T.the-type T′.the-laws) fullShare h vs b o $
         move ! (1 ∷ []) $ peeks ! T.the-row (Is T.the-row) (shows 𝓤 H A T.the-row) h (LL.vals T.the-type T′.the-laws h) (λ g. move ! (1 ∷ 0 ∷ []) $
         -- [the state's cell; what it owns; the open borrow; obs; auth; the other tokens; the rest; _4 (7); …; _1 (13); …; room for _0 (15); …]
-        assigns ! (of-opd ! (load ! (from ! (hop ! (look ! 13 refl) (stop !))) (look-raw ! 0 refl))) (from ! (stop !)) (init ! 7 refl (LL.lawful T.the-type T′.the-laws 𝓤 H A W .typed h _ g .0)) $
+        assigns ! (of-opd ! (load ! (from ! (hop ! (look ! 13 refl) (stop !))) (look-raw ! 0 refl))) (from ! (stop !))
+        (init ! 7 refl (LL.lawful T.the-type T′.the-laws 𝓤 H A W .typed h _ g .0)) $
         move ! (5 ∷ 6 ∷ []) $ use2 W (raw (Core 𝓤 H A at-mem run .pre to-core)) (goes g) $
         -- [the core's pre; the state's cell; what it owns; the open borrow; obs; auth; _4 (6); …]
-        calls-at ! fm (Core 𝓤 H A at-mem run) known to-core (and-then ! (load ! (from ! (stop !)) (look ! 6 refl)) (and-then ! (load ! (from ! (stop !)) (look ! 10 refl)) (and-then ! (load ! (from ! (stop !)) (look ! 8 refl)) (no-more !)))) (λ u.
-        use1 W (later (some (λ (r : Ended). ((‵ (flft κ₁ q₁) ⊛ ‵ (flft κ₂ q₂) ⊛ ‵ ftrue) ⊛ ‵ (S.the-row .own r (u ∷ []))) ⊛ raw (ensured 𝓤 H A core.ended (core.clauses 𝓤 H A at-mem run) (κ₁, (κ₂, tt)) passed tt r)))) (id⊢ 𝓤 _) $ await ! tt $ pick ! (λ r.
+        calls-at ! fm (Core 𝓤 H A at-mem run) known to-core (and-then ! (load ! (from ! (stop !)) (look ! 6 refl))
+        (and-then ! (load ! (from ! (stop !)) (look ! 10 refl)) (and-then ! (load ! (from ! (stop !)) (look ! 8 refl)) (no-more !)))) (λ u.
+        use1 W (later (some (λ (r : Ended). ((‵ (flft κ₁ q₁) ⊛ ‵ (flft κ₂ q₂) ⊛ ‵ ftrue) ⊛ ‵ (S.the-row .own r (u ∷ [])))
+        ⊛ raw (ensured 𝓤 H A core.ended (core.clauses 𝓤 H A at-mem run) (κ₁, (κ₂, tt)) passed tt r)))) (id⊢ 𝓤 _) $ await ! tt $ pick ! (λ r.
         split ! $ move ! (1 ∷ []) $ use1 W (raw (fact 𝓤 (r ≡ ended h (x₁ .now) (x₂ .now)))) (said r) $ heard ! (r ≡ ended h (x₁ .now) (x₂ .now)) (λ e.
         split ! $ move ! (1 ∷ []) $ peeks ! S.the-row (Is S.the-row) (shows 𝓤 H A S.the-row) r (u ∷ []) (λ is.
         -- [the answer's; the other tokens; the state's cell; what it owns; the open borrow; obs; auth; _4 (7); …; room for _0 (15); …]
@@ -143,20 +163,31 @@ module _ {M : Type 1} (𝓤 : URA M) (H : Heap 𝓤) (A : Atoms 𝓤) (W : Given
         move ! (2 ∷ 3 ∷ 4 ∷ 5 ∷ 6 ∷ []) $ closes ! tt T.the-row h (mach ∷ []) b o $
         -- [obs; the borrow; the token; the answer's; the other tokens; _4 (5); …; _0 (13); …]
         returns ! (look ! 13 refl) $ forget ! 5 refl $ forget ! 7 refl $ forget ! 9 refl $ forget ! 11 refl $ forget ! 13 refl $
-        move ! (13 ∷ 14 ∷ []) $ free1 ! $ move ! (11 ∷ 12 ∷ []) $ free1 ! $ move ! (9 ∷ 10 ∷ []) $ free1 ! $ move ! (7 ∷ 8 ∷ []) $ free1 ! $ move ! (5 ∷ 6 ∷ []) $ free1 ! $ free0 ! $
+        move ! (13 ∷ 14 ∷ []) $ free1 ! $ move ! (11 ∷ 12 ∷ []) $ free1 ! $ move ! (9 ∷ 10 ∷ []) $ free1 ! $ move ! (7 ∷ 8 ∷ []) $ free1 ! $
+        move ! (5 ∷ 6 ∷ []) $ free1 ! $ free0 ! $
         keep ! (0 ∷ 1 ∷ 2 ∷ 4 ∷ 3 ∷ []) $ by ! (exits r u e))))))))))))
 
 module _ {M : Type 1} (𝓤 : URA M) (H : Heap 𝓤) (A : Atoms 𝓤) (W : Given 𝓤 H A) (at-mem : Memory → SProp 𝓤) (run : Routine → Fun 𝓤) where
-  walks : (C : Calls 𝓤 H) (Λ : Loops 𝓤 H) → FmC 𝓤 H (W .laws) C → Triple 𝓤 (C #alignment·align) (Core 𝓤 H A at-mem run) → Walks 𝓤 H A f.ended stayed (WpFn 𝓤 H C Λ code.function) (f.clauses 𝓤 H A at-mem run)
+  walks : (C : Calls 𝓤 H) (Λ : Loops 𝓤 H) → FmC 𝓤 H (W .laws) C → Triple 𝓤 (C #alignment·align) (Core 𝓤 H A at-mem run)
+      → Walks 𝓤 H A f.ended stayed (WpFn 𝓤 H C Λ code.function) (f.clauses 𝓤 H A at-mem run)
   walks C Λ fm known = walked 𝓤 H A f.ended stayed (f.clauses 𝓤 H A at-mem run) (WpFn 𝓤 H C Λ code.function)
-      (λ κs. (ptr-vals, (slice-vals, (slice-vals, tt)))) (λ κs. (mut-tells (named 0) (κs .0) T.the-row, (shr-slice-tells (named 1) (κs .1 .0) u64, (shr-slice-tells (named 2) (κs .1 .1 .0) u64, tt))))
+      (λ κs. (ptr-vals, (slice-vals, (slice-vals, tt))))
+      (λ κs. (mut-tells (named 0) (κs .0) T.the-row, (shr-slice-tells (named 1) (κs .1 .0) u64, (shr-slice-tells (named 2) (κs .1 .1 .0) u64, tt))))
       (λ κs qs bounds a g are. via 𝓤 _ (fst∗ 𝓤 _ (emp 𝓤))
-      (walk 𝓤 H A W at-mem run (κs .0) (κs .1 .0) (κs .1 .1 .0) (qs .0) (qs .1 .0) (qs .1 .1 .0) (a .0 .ptr .0) (a .0 .ptr .1) (a .0 .name) (a .0 .now) (a .1 .0) (a .1 .1 .0) C Λ fm known (are .1 .0 .0 .1) (are .1 .1 .0 .0 .1)))
+      (walk 𝓤 H A W at-mem run (κs .0) (κs .1 .0) (κs .1 .1 .0) (qs .0) (qs .1 .0) (qs .1 .1 .0) (a .0 .ptr .0) (a .0 .ptr .1) (a .0 .name)
+      (a .0 .now) (a .1 .0) (a .1 .1 .0) C Λ fm known (are .1 .0 .0 .1) (are .1 .1 .0 .0 .1)))
 
   all-go : AllGo 𝓤 H A W 3 (f.signature .params) (f.ended .kept) stayed
-  all-go = (goes-ref 𝓤 H A W 3 0 tt (plain (λ _. T.the-row)), (goes-dropped 𝓤 H A W 3 (shrSliceOf (1 ∷ []) tt (plain (λ _. u64))) yes (λ κs x f. refl), (goes-dropped 𝓤 H A W 3 (shrSliceOf (2 ∷ []) tt (plain (λ _. u64))) yes (λ κs x f. refl), tt)))
+  all-go = (
+    goes-ref 𝓤 H A W 3 0 tt (plain (λ _. T.the-row)),
+    (
+      goes-dropped 𝓤 H A W 3 (shrSliceOf (1 ∷ []) tt (plain (λ _. u64))) yes (λ κs x f. refl),
+      (goes-dropped 𝓤 H A W 3 (shrSliceOf (2 ∷ []) tt (plain (λ _. u64))) yes (λ κs x f. refl), tt),
+    ),
+  )
 
-meets : {M : Type 1} (𝓤 : URA M) (H : Heap 𝓤) (A : Atoms 𝓤) → Given 𝓤 H A → (at-mem : Memory → SProp 𝓤) (run : Routine → Fun 𝓤) (𝓣 : Tables 𝓤 H) → Triple 𝓤 (𝓣 .C #alignment·align) (Core 𝓤 H A at-mem run)
+meets : {M : Type 1} (𝓤 : URA M) (H : Heap 𝓤) (A : Atoms 𝓤) → Given 𝓤 H A → (at-mem : Memory → SProp 𝓤) (run : Routine → Fun 𝓤) (𝓣 : Tables 𝓤 H)
+    → Triple 𝓤 (𝓣 .C #alignment·align) (Core 𝓤 H A at-mem run)
     → Meets 𝓤 H A f.signature (WpFn 𝓤 H (𝓣 .C) (𝓣 .Λ) code.function) (f.spec 𝓤 H A at-mem run)
 meets 𝓤 H A W at-mem run 𝓣 known =
     walk-meets 𝓤 H A f.ended stayed W (all-go 𝓤 H A W at-mem run) (f.clauses 𝓤 H A at-mem run)

@@ -5,7 +5,10 @@ use Rattle.byte_aligner.proofs.plan_bitfield.Statement.{statement}
 use Rattle.byte_aligner.proofs.plan_bitfield.Tie as tie
 
 returns : tie.Need-returns
-returns c = plans-bits _ _ _ _ (c .before .before .before .before .before .before .before .near .ensures) _ _ _ _ _ (c .before .before .before .before .add-bitfield .ensures) _ (c .planned .ensures)
+returns c =
+    let b = c .before .before .before .before in
+    let n = b .before .before .before in
+    plans-bits _ _ _ _ (n .near .ensures) _ _ _ _ _ (b .add-bitfield .ensures) _ (c .planned .ensures)
 
 pub plan-bitfield-spec : {M : Type 1} → statement M
 plan-bitfield-spec =

@@ -5,7 +5,10 @@ use Rattle.byte_aligner.proofs.plan_bytes.Statement.{statement}
 use Rattle.byte_aligner.proofs.plan_bytes.Tie as tie
 
 returns : tie.Need-returns
-returns c = plans-bytes _ _ _ _ (c .before .before .before .before .before .before .before .near .ensures) _ _ _ _ _ (c .before .before .before .before .add-bytes .ensures) _ (c .planned .ensures)
+returns c =
+    let b = c .before .before .before .before in
+    let n = b .before .before .before in
+    plans-bytes _ _ _ _ (n .near .ensures) _ _ _ _ _ (b .add-bytes .ensures) _ (c .planned .ensures)
 
 pub plan-bytes-spec : {M : Type 1} → statement M
 plan-bytes-spec =

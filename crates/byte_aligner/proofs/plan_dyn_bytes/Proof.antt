@@ -5,7 +5,10 @@ use Rattle.byte_aligner.proofs.plan_dyn_bytes.Statement.{statement}
 use Rattle.byte_aligner.proofs.plan_dyn_bytes.Tie as tie
 
 returns : tie.Need-returns
-returns c = plans-dyn _ _ _ _ (c .before .before .before .before .before .before .before .near .ensures) _ _ _ _ (c .before .before .before .before .add-dyn-bytes .ensures) _ (c .planned .ensures)
+returns c =
+    let b = c .before .before .before .before in
+    let n = b .before .before .before in
+    plans-dyn _ _ _ _ (n .near .ensures) _ _ _ _ (b .add-dyn-bytes .ensures) _ (c .planned .ensures)
 
 pub plan-dyn-bytes-spec : {M : Type 1} → statement M
 plan-dyn-bytes-spec =

@@ -15,13 +15,25 @@ returns-3 : tie.Need-returns-3
 returns-3 c = number-high _ _ _ (c .before .before .before .if1 .left) _ (c .before .before .word-of .ensures) (c .before .if2 .left) (c .if3 .taken)
 
 returns-4 : tie.Need-returns-4
-returns-4 c = number-17 _ _ _ (c .before .before .before .before .before .before .if1 .left) _ (c .before .before .before .before .before .word-of .ensures) (c .before .before .before .before .if2 .left) (c .before .before .before .if3 .left) _ _ (c .before .before .word-of2 .ensures) (c .before .word-of3 .ensures) (omega arith)
+returns-4 c =
+    let i = c .before .before .before in
+    let a = i .before .before .before in
+    number-17 _ _ _ (a .if1 .left) _ (i .before .before .word-of .ensures) (i .before .if2 .left) (i .if3 .left) _ _
+    (c .before .before .word-of2 .ensures) (c .before .word-of3 .ensures) (omega arith)
 
 returns-5 : tie.Need-returns-5
-returns-5 c = number-17 _ _ _ (c .before .before .before .before .before .before .before .if1 .left) _ (c .before .before .before .before .before .before .word-of .ensures) (c .before .before .before .before .before .if2 .left) (c .before .before .before .before .if3 .left) _ _ (c .before .before .before .word-of2 .ensures) (c .before .before .word-of3 .ensures) (omega arith)
+returns-5 c =
+    let w = c .before .before .before in
+    let a = w .before .before .before in
+    number-17 _ _ _ (a .before .if1 .left) _ (a .word-of .ensures) (w .before .before .if2 .left) (w .before .if3 .left) _ _ (w .word-of2 .ensures)
+    (c .before .before .word-of3 .ensures) (omega arith)
 
 returns-6 : tie.Need-returns-6
-returns-6 c = number-0 _ _ _ (c .before .before .before .before .before .before .before .if1 .left) _ (c .before .before .before .before .before .before .word-of .ensures) (c .before .before .before .before .before .if2 .left) (c .before .before .before .before .if3 .left) _ _ (c .before .before .before .word-of2 .ensures) (c .before .before .word-of3 .ensures) (omega arith)
+returns-6 c =
+    let w = c .before .before .before in
+    let a = w .before .before .before in
+    number-0 _ _ _ (a .before .if1 .left) _ (a .word-of .ensures) (w .before .before .if2 .left) (w .before .if3 .left) _ _ (w .word-of2 .ensures)
+    (c .before .before .word-of3 .ensures) (omega arith)
 
 pub declaration-number-spec : {M : Type 1} → statement M
 declaration-number-spec =

@@ -8,10 +8,16 @@ returns : tie.Need-returns
 returns c = served-nothing _ _ _ (c .enum-told .given .1)
 
 returns-2 : tie.Need-returns-2
-returns-2 c = served-bits _ _ _ _ _ (c .before .before .before .before .before .before .before .before .before .asked .given .1) (c .before .before .before .before .before .add-bitfield .ensures)
+returns-2 c =
+    let a = c .before .before .before .before .before in
+    let b = a .before .before .before .before in
+    served-bits _ _ _ _ _ (b .asked .given .1) (a .add-bitfield .ensures)
 
 returns-3 : tie.Need-returns-3
-returns-3 c = served-dynamic _ _ _ _ (c .before .before .before .before .before .before .before .before .enum-told2 .given .1) (c .before .before .before .before .before .add-dyn-bytes .ensures)
+returns-3 c =
+    let a = c .before .before .before .before .before in
+    let e = a .before .before .before in
+    served-dynamic _ _ _ _ (e .enum-told2 .given .1) (a .add-dyn-bytes .ensures)
 
 returns-4 : tie.Need-returns-4
 returns-4 c = served-refused _ _ _ _ (c .enum-told3 .given .1)

@@ -23,7 +23,15 @@ loop-holds : tie.Need-loop-holds Inv-loop μ-loop
 loop-holds c = (search needs, (refl, (refl, place-start _ _ _ _ _ _ (c .new .ensures))))
 
 loop-again : tie.Need-loop-again Inv-loop μ-loop
-loop-again c = let l = c .before .before .before .before .before .before .before .before .before .loop .inv in let f = c .before .before .before .before .place-field in (search needs, (f .kept .1 .1 .1 .0 ∙ l .1 .0, (f .kept .1 .1 .1 .1 .0 ∙ l .1 .1 .0, place-turn _ _ _ _ _ (l .1 .1 .1) (c .before .before .before .before .before .before .before .before .before .before .before .before .before .before .pre .number) (c .before .before .before .before .before .before .before .before .loop-test .taken) _ (c .before .before .before .before .before .before .before .field-request .ensures) _ (f .ensures))))
+loop-again c =
+    let p = c .before .before .before .before in
+    let q = p .before .before .before in
+    let l = q .before .before in
+    let i = l .loop .inv in
+    let f = p .place-field in
+    let z = l .before .before .before .before .before .pre .number in
+    let t = place-turn _ _ _ _ _ (i .1 .1 .1) z (q .before .loop-test .taken) _ (q .field-request .ensures) _ (f .ensures) in
+    (search needs, (f .kept .1 .1 .1 .0 ∙ i .1 .0, (f .kept .1 .1 .1 .1 .0 ∙ i .1 .1 .0, t)))
 
 same-length : tie.Need-same-length Inv-loop μ-loop
 same-length c = c .before .loop .inv .1 .0

@@ -18,10 +18,16 @@ loop-holds : tie.Need-loop-holds Inv-loop μ-loop
 loop-holds c = (search needs, refl)
 
 returns : tie.Need-returns Inv-loop μ-loop
-returns c = let l = c .before .before .before .loop in let a = c .before .before .before .before .args in among-here (a .kind) (a .kinds .now) (l .i) (search needs) (c .if1 .taken) ∙ l .inv .1
+returns c =
+    let l = c .before .before .before .loop in
+    let a = c .before .before .before .before .args in
+    among-here (a .kind) (a .kinds .now) (l .i) (search needs) (c .if1 .taken) ∙ l .inv .1
 
 loop-again : tie.Need-loop-again Inv-loop μ-loop
-loop-again c = let l = c .before .before .before .loop in let a = c .before .before .before .before .args in (search needs, among-next (a .kind) (a .kinds .now) (l .i) (search needs) (c .if1 .left) ∙ l .inv .1)
+loop-again c =
+    let l = c .before .before .before .loop in
+    let a = c .before .before .before .before .args in
+    (search needs, among-next (a .kind) (a .kinds .now) (l .i) (search needs) (c .if1 .left) ∙ l .inv .1)
 
 returns-2 : tie.Need-returns-2 Inv-loop μ-loop
 returns-2 c = let l = c .before .loop in let a = c .before .before .args in among-none (a .kind) (a .kinds .now) (l .i) (search needs) ∙ l .inv .1

@@ -8,13 +8,23 @@ returns : tie.Need-returns
 returns c = kind-bits _ _ _ (c .before .is-among .ensures) (c .if1 .taken)
 
 returns-2 : tie.Need-returns-2
-returns-2 c = kind-dynamic _ _ _ (c .before .before .before .before .is-among .ensures) (c .before .before .before .if1 .left) _ (c .before .is-among2 .ensures) (c .if2 .taken)
+returns-2 c =
+    let i = c .before .before .before in
+    kind-dynamic _ _ _ (i .before .is-among .ensures) (i .if1 .left) _ (c .before .is-among2 .ensures) (c .if2 .taken)
 
 returns-3 : tie.Need-returns-3
-returns-3 c = kind-nothing _ _ _ (c .before .before .before .before .before .before .before .is-among .ensures) (c .before .before .before .before .before .before .if1 .left) _ (c .before .before .before .before .is-among2 .ensures) (c .before .before .before .if2 .left) _ (c .before .is-among3 .ensures) (c .if3 .taken)
+returns-3 c =
+    let i = c .before .before .before in
+    let a = i .before .before .before in
+    kind-nothing _ _ _ (a .before .is-among .ensures) (a .if1 .left) _ (i .before .is-among2 .ensures) (i .if2 .left) _
+    (c .before .is-among3 .ensures) (c .if3 .taken)
 
 returns-4 : tie.Need-returns-4
-returns-4 c = kind-refused _ _ _ (c .before .before .before .before .before .before .before .is-among .ensures) (c .before .before .before .before .before .before .if1 .left) _ (c .before .before .before .before .is-among2 .ensures) (c .before .before .before .if2 .left) _ (c .before .is-among3 .ensures) (c .if3 .left)
+returns-4 c =
+    let i = c .before .before .before in
+    let a = i .before .before .before in
+    kind-refused _ _ _ (a .before .is-among .ensures) (a .if1 .left) _ (i .before .is-among2 .ensures) (i .if2 .left) _
+    (c .before .is-among3 .ensures) (c .if3 .left)
 
 pub kind-request-spec : {M : Type 1} → statement M
 kind-request-spec =
