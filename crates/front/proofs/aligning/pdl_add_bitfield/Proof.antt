@@ -6,7 +6,10 @@ use Rattle.front.proofs.aligning.pdl_add_bitfield.Statement.{statement}
 use Rattle.front.proofs.aligning.pdl_add_bitfield.Tie as tie
 
 returns : tie.Need-returns
-returns c = called-on (add-bitfield _ _) _ _ _ _ _ _ _ _ (c .before .before .before .before .before .before .before .before .before .state-of .ensures) (c .before .before .before .before .before .before .add-bitfield .ensures) (c .words-of .ensures)
+returns c =
+    let a = c .before .before .before .before .before .before in
+    let s = a .before .before .before in
+    called-on (add-bitfield _ _) _ _ _ _ _ _ _ _ (s .state-of .ensures) (a .add-bitfield .ensures) (c .words-of .ensures)
 
 pub pdl-add-bitfield-spec : {M : Type 1} → statement M
 pdl-add-bitfield-spec =

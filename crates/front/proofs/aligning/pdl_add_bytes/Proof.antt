@@ -6,7 +6,10 @@ use Rattle.front.proofs.aligning.pdl_add_bytes.Statement.{statement}
 use Rattle.front.proofs.aligning.pdl_add_bytes.Tie as tie
 
 returns : tie.Need-returns
-returns c = called-on (add-bytes _ _) _ _ _ _ _ _ _ _ (c .before .before .before .before .before .before .before .before .before .state-of .ensures) (c .before .before .before .before .before .before .add-bytes .ensures) (c .words-of .ensures)
+returns c =
+    let a = c .before .before .before .before .before .before in
+    let s = a .before .before .before in
+    called-on (add-bytes _ _) _ _ _ _ _ _ _ _ (s .state-of .ensures) (a .add-bytes .ensures) (c .words-of .ensures)
 
 pub pdl-add-bytes-spec : {M : Type 1} → statement M
 pdl-add-bytes-spec =

@@ -6,7 +6,10 @@ use Rattle.front.proofs.aligning.pdl_add_dyn_bytes.Statement.{statement
 use Rattle.front.proofs.aligning.pdl_add_dyn_bytes.Tie as tie
 
 returns : tie.Need-returns
-returns c = called-on (add-dyn-bytes _) _ _ _ _ _ _ _ _ (c .before .before .before .before .before .before .before .before .before .state-of .ensures) (c .before .before .before .before .before .before .add-dyn-bytes .ensures) (c .words-of .ensures)
+returns c =
+    let a = c .before .before .before .before .before .before in
+    let s = a .before .before .before in
+    called-on (add-dyn-bytes _) _ _ _ _ _ _ _ _ (s .state-of .ensures) (a .add-dyn-bytes .ensures) (c .words-of .ensures)
 
 pub pdl-add-dyn-bytes-spec : {M : Type 1} → statement M
 pdl-add-dyn-bytes-spec =
