@@ -15,5 +15,6 @@ pub mod Alignment
 pub mod Feeding
 pub mod Everything
 pub mod Papers
+pub mod Examples
 pub mod Moving
 pub mod Moved

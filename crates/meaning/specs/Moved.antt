@@ -1,5 +1,5 @@
--- Worked examples of moving: an old source, and added text with a row of every kind. The added text's rows, as they stand behind the
--- old source, and as they stand in its middle, are written out.
+-- Worked examples of moving: an old source, to which the text with a row of every kind is added. The rows of that text, as they stand
+-- behind the old source, and those behind it in the old source's middle, are written out.
 use Prim.Native.Nat.{ℕ}
 use Prim.Native.String.{String}
 use mathlib.Core.Path.{_≡_, refl}
@@ -17,9 +17,7 @@ use Rattle.meaning.specs.Reading.{Reading, refused, accepted, reading}
 use Rattle.meaning.specs.Moving.{Move, moved-row, moved-rows, breaks, appended, Ends, inserted}
 use Rattle.meaning.specs.Everything.{everything}
 use Rattle.meaning.specs.Papers.{lines}
-
-abbrev keyword : List ℕ
-keyword = bytes "big_endian_packets\n"
+use Rattle.meaning.specs.Examples.Readings.{keyword, all-kinds, written}
 
 -- the old source up to its first declaration's end, and the rest, whose comment no newline closes
 abbrev before-cut : List ℕ
@@ -31,17 +29,6 @@ behind-cut = bytes " enum N : 8 { X = 1 } // end"
 
 abbrev old : List ℕ
 old = before-cut ++ behind-cut
-
--- declarations of all six kinds and a test, fields of all fourteen, tags of all four, both constraints, both comments
-abbrev added : List ℕ
-added =
-    bytes "/* a\n"
-    ++ bytes " */ enum E : 8 { A = 1, R = 2..4 { B = 3 }, O = .. }\n"
-    ++ bytes "packet P : Q (x = 1, y = A) { a: 8 if s = 1, _checksum_start_(c), _padding_[1], _size_(a): 8,\n"
-    ++ bytes "  _count_(a): 8, _elementsize_(a): 8, _body_, _fixed_ = 1 : 8, _fixed_ = A : E }\n"
-    ++ bytes "struct S { _payload_ : [+1], _reserved_ : 8, b: 8[4], t: E }\n"
-    ++ bytes "group G { G { x = 1 }, H } // b\n"
-    ++ bytes "checksum C : 8 \"\" custom_field F : 8 \"f\" test P { \"00\" }"
 
 abbrev items : List ℕ → List Item
 items s = go (reading s)
@@ -58,10 +45,6 @@ pub data Letter : Type 0 where
   _of_ : String → Table → Letter
 
 infix 30 _of_
-abbrev written : List String → List ℕ
-written [] = []
-written (s ∷ ss) = bytes s ++ 10 ∷ written ss
-
 -- the lines of all rows but the first so many of each table, moved
 abbrev moved-lines : Move → (Table → ℕ) → List Item → List ℕ
 moved-lines m skipped xs =
@@ -73,7 +56,7 @@ moved-lines m skipped xs =
 
 -- ---- appended to the old source, which has 96 bytes, 2 LFs, and 2, 2, 1, 3 and 1 rows: 'a first of 0 with a count above 0
 -- grows like any other' is the first row, an empty function text the fifth
-pub all-appended : moved-lines (appended old keyword (counts old)) (λ t. 0) (items (keyword ++ added)) ≡ written (
+pub all-appended : moved-lines (appended old keyword (counts old)) (λ t. 0) (items (keyword ++ all-kinds)) ≡ written (
     "D 1 106 4 4 154 4 52 111 1 0 0 1 8 1 4 0 0"
     ∷ "D 2 155 5 0 329 6 80 162 1 166 1 0 0 2 9 3 2"
     ∷ "D 3 330 7 0 390 7 60 337 1 0 0 0 0 11 4 0 0"
@@ -116,12 +99,12 @@ pub cut-there : Ends (length before-cut) (file-nodes old)
 unfolding everything
 cut-there = inr (inl (refl, refl))
 
-pub cut-behind-test : Ends (length (keyword ++ added)) (file-nodes (keyword ++ added))
+pub cut-behind-test : Ends (length (keyword ++ all-kinds)) (file-nodes (keyword ++ all-kinds))
 unfolding everything
 cut-behind-test = inr (inr (inr (inr (inr (inr (inr (inr (inr (inl (refl, refl))))))))))
 
 -- ---- inserted at the cut: what stood behind it, on its line, in column 23 and later
-pub all-inserted : moved-lines (inserted (placeAt old (length before-cut)) added (counts (keyword ++ added))) (counts before-cut) (items old) ≡ written (
+pub all-inserted : moved-lines (inserted (placeAt old (length before-cut)) all-kinds (counts (keyword ++ all-kinds))) (counts before-cut) (items old) ≡ written (
     "D 1 453 10 1 473 10 21 458 1 0 0 1 8 4 1 0 0"
     ∷ "T 1 466 10 14 471 10 19 466 1 1 0 0"
     ∷ "M 2 474 10 22 480 10 28" ∷ [])

@@ -78,6 +78,9 @@ want (converts s r v) = r ∷ v ∷ []
 want (aligns ks ns w) = ns ++ w
 want (lays s w) = w
 
+abbrev pub p3-source : String
+p3-source = "little_endian_packets\npacket A {x: 3 , y: 5}"
+
 abbrev pub cases : List Case
 cases =
     -- P1
@@ -86,8 +89,8 @@ cases =
     ∷ reads "little_endian_packets" "R 3 0 0\n"
     ∷ reads "little_endian_packets\n" "E 1 0 0 0 22 1 0\n"
     -- P3
-    ∷ reads "little_endian_packets\npacket A {x: 3 , y: 5}" "E 1 0 0 0 22 1 0\nD 2 22 1 0 44 1 22 29 1 0 0 0 0 0 2 0 0\nF 12 32 1 10 37 1 15 32 1 0 0 0 0 1 3 0 0 0 0 0\nF 12 39 1 17 43 1 21 39 1 0 0 0 0 1 5 0 0 0 0 0\n"
-    ∷ lays "little_endian_packets\npacket A {x: 3 , y: 5}" (0 ∷ 0 ∷ 2 ∷ 1 ∷ 0 ∷ 3 ∷ 0 ∷ 1 ∷ 5 ∷ 3 ∷ 0 ∷ 0 ∷ 0 ∷ 1 ∷ 0 ∷ 2 ∷ 8 ∷ 0 ∷ 0 ∷ 0 ∷ 0 ∷ 0 ∷ 0 ∷ [])
+    ∷ reads p3-source "E 1 0 0 0 22 1 0\nD 2 22 1 0 44 1 22 29 1 0 0 0 0 0 2 0 0\nF 12 32 1 10 37 1 15 32 1 0 0 0 0 1 3 0 0 0 0 0\nF 12 39 1 17 43 1 21 39 1 0 0 0 0 1 5 0 0 0 0 0\n"
+    ∷ lays p3-source (0 ∷ 0 ∷ 2 ∷ 1 ∷ 0 ∷ 3 ∷ 0 ∷ 1 ∷ 5 ∷ 3 ∷ 0 ∷ 0 ∷ 0 ∷ 1 ∷ 0 ∷ 2 ∷ 8 ∷ 0 ∷ 0 ∷ 0 ∷ 0 ∷ 0 ∷ 0 ∷ [])
     -- P4
     ∷ reads "big_endian_packets\nenum E : 8 { A = 0x }" "R 3 19 0\n"
     -- P5
