@@ -5,14 +5,15 @@ from itertools import zip_longest
 from pathlib import Path
 from typing import Dict, List, NamedTuple, Optional, Set
 
+import definitions
+import wrong
 from prover import Replacement, replacements
-from wrong import edits
 
 BY_HAND = ("must-fail", "mutants")
 
 
 class Trial(NamedTuple):
-    """An edit to try: what a person is shown of it, its replacements, and its one line where it was made by a seed."""
+    """An edit to try: what a person is shown of it, its replacements, and its line where it was made by a seed."""
 
     label: str
     replaced: List[Replacement]
@@ -31,28 +32,39 @@ def written(crate: Path) -> List[Trial]:
     return [Trial(f"{edit.parent.name}/{edit.stem}", replacements(edit), None) for edit in files]
 
 
-def made(crate: Path, seed: int) -> List[Trial]:
-    """The edits that can be made of a crate, in an order by chance in which the kinds of edits take turns."""
+def made(crate: Path, seed: int, of_definitions: bool = False) -> List[Trial]:
+    """The edits that can be made of a crate's code, or of its definitions, in an order by chance in which the kinds of edits take turns."""
+    files = filter(definitions.holds_definitions, crate.glob("specs/**/*.antt")) if of_definitions else crate.glob("src/**/*.rt")
+    edits = definitions.edits if of_definitions else wrong.edits
     kinds: Dict[str, List[Trial]] = {}
-    for file in sorted(crate.glob("src/**/*.rt")):
+    for file in sorted(files):
         source, name = file.read_text(encoding="utf-8"), str(file.relative_to(crate))
-        lines = source.splitlines(keepends=True)
         for edit in edits(source):
-            line = Replacement(name, edit.old.strip(), edit.new.strip())
-            whole = "".join(lines[: edit.line - 1]) + edit.new + "\n" + "".join(lines[edit.line :])
-            label = f"{name}:{edit.line}: {line.old}  ->  {line.new}"
-            kinds.setdefault(edit.kind, []).append(Trial(label, [Replacement(name, source, whole)], line))
+            kinds.setdefault(edit.kind, []).append(trial(name, source, edit))
     chance = random.Random(f"{seed} {crate.name}")
     for trials in kinds.values():
         chance.shuffle(trials)
     turns = zip_longest(*(kinds[kind] for kind in sorted(kinds)))
-    return [trial for turn in turns for trial in turn if trial is not None]
+    return [one for turn in turns for one in turn if one is not None]
+
+
+def trial(name: str, source: str, edit: wrong.Edit) -> Trial:
+    """An edit that was made of a file."""
+    lines = source.splitlines(keepends=True)
+    behind = edit.line + edit.old.count("\n")
+    whole = "".join(lines[: edit.line - 1]) + edit.new + "\n" + "".join(lines[behind:])
+    line = Replacement(name, on_one_line(edit.old), on_one_line(edit.new))
+    return Trial(f"{name}:{edit.line}: {line.old}  ->  {line.new}", [Replacement(name, source, whole)], line)
+
+
+def on_one_line(text: str) -> str:
+    return " ".join(text.split())
 
 
 def explained(crate: Path) -> Set[Replacement]:
     """The lines that may survive, each in a file that says why: nearly always because the program is an equal one."""
     return {
-        Replacement(part.file, part.old.strip(), part.new.strip())
+        Replacement(part.file, on_one_line(part.old), on_one_line(part.new))
         for edit in (crate / "survivors").glob("*.edit")
         for part in replacements(edit)
     }

@@ -10,6 +10,9 @@ from typing import List, NamedTuple
 
 REFUSED, SURVIVED, RAN, INVALID, OPEN = "refused", "survived", "refused by its output", "does not compile", "no verdict"
 
+# What is said where a definition does not compile, of all that rests on it; on an example that is refused nothing rests.
+NOT_ADMITTED = "was not admitted"
+
 
 class Verdict(NamedTuple):
     """What became of an edit, and the first error that the prover found."""
@@ -56,10 +59,10 @@ def snapshot(root: Path, place: Path) -> Path:
 
 
 class Copy:
-    """A copy of a snapshot's crates, over the snapshot's libraries."""
+    """A copy of a snapshot's crates, over the snapshot's libraries, for edits of code or of definitions."""
 
-    def __init__(self, source: Path, place: Path):
-        self.top = place
+    def __init__(self, source: Path, place: Path, of_definitions: bool = False):
+        self.top, self.of_definitions = place, of_definitions
         shutil.rmtree(place, ignore_errors=True)
         place.mkdir(parents=True)
         shutil.copy(source / "crates.txt", place)
@@ -103,7 +106,7 @@ class Copy:
         status, said = self.rt("dev", crate, limit)
         if status == 0 and "\nlogic=proved" in said:
             return Verdict(SURVIVED)
-        if "\nlogic=not-proved" in said:
+        if "\nlogic=not-proved" in said and not (self.of_definitions and NOT_ADMITTED in said):
             return Verdict(REFUSED, self.first_error(said))
         return Verdict(OPEN if status in (None, 3) else INVALID, self.first_error(said))
 
