@@ -34,12 +34,12 @@ def written(crate: Path) -> List[Trial]:
 
 def made(crate: Path, seed: int, of_definitions: bool = False) -> List[Trial]:
     """The edits that can be made of a crate's code, or of its definitions, in an order by chance in which the kinds of edits take turns."""
-    files = filter(definitions.holds_definitions, crate.glob("specs/**/*.antt")) if of_definitions else crate.glob("src/**/*.rt")
+    files = sorted(crate.glob("specs/**/*.antt" if of_definitions else "src/**/*.rt"))
     edits = definitions.edits if of_definitions else wrong.edits
     kinds: Dict[str, List[Trial]] = {}
-    for file in sorted(files):
+    for file in files:
         source, name = file.read_text(encoding="utf-8"), str(file.relative_to(crate))
-        for edit in edits(source):
+        for edit in edits(source) if not definitions.is_table(name) else ():
             kinds.setdefault(edit.kind, []).append(trial(name, source, edit))
     chance = random.Random(f"{seed} {crate.name}")
     for trials in kinds.values():

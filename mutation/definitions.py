@@ -2,7 +2,6 @@
 made due, or a due part made optional."""
 
 import re
-from pathlib import Path
 from typing import Iterator, List, NamedTuple, Set, Tuple
 
 from wrong import Change, Edit
@@ -16,9 +15,6 @@ TOKEN = re.compile(
     """,
     re.X | re.S,
 )
-# The tables of examples, by their files and folders.
-TABLES = {"Papers", "Moved", "Examples"}
-
 NUMBER = re.compile(r"0x[0-9A-Fa-f]+$|[0-9]+$")
 CLOSED_BY = {"(": ")", "[": "]", "{": "}"}
 
@@ -47,9 +43,9 @@ class Clause(NamedTuple):
     left: Set[str]
 
 
-def holds_definitions(file: Path) -> bool:
-    """Whether a file of specs/ has definitions: the tables of examples have none."""
-    return not TABLES & {part.removesuffix(".antt") for part in file.parts}
+def is_table(name: str) -> bool:
+    """Whether a file of a crate is a table of examples, which has no definitions."""
+    return re.match(r"specs/(Papers|Moved|Examples)[/.]", name) is not None
 
 
 def edits(source: str) -> List[Edit]:
@@ -72,6 +68,7 @@ def on_lines(source: str, change: Change) -> Edit:
 
 
 def changes(source: str) -> Iterator[Change]:
+    """Every change of a value, and of two clauses that may change theirs."""
     names = set(re.findall(r"[^\s{},()]+", "\n".join(re.findall(r"^use .*$", source, re.M)))) | {"true", "false"}
     for clauses in definitions(source):
         for clause in clauses:
@@ -83,6 +80,7 @@ def changes(source: str) -> Iterator[Change]:
 
 
 def defined(source: str) -> Set[str]:
+    """The names that a file defines itself."""
     return set(re.findall(r"^(?:abbrev|unfoldable) (?:pub )?(\S+) :", source, re.M))
 
 
