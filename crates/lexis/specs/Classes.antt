@@ -51,7 +51,7 @@ one-of Digit = digit
 one-of Hexdigit = hexdigit
 
 -- ---- how many bytes from the front are of a class
-abbrev pub sucIf : Bool → ℕ → ℕ
+abbrev sucIf : Bool → ℕ → ℕ
 sucIf true n = suc n
 sucIf false n = 0
 
@@ -121,7 +121,8 @@ one-byte b (x ∷ t) = rw (both-true (eqb b x)) (hit-pick (eqb b x))
 
 hit-alt : (d e : Bool) (m : Match) (q : List ℕ → Match) (u : List ℕ) → Hit d m → Hit e (q u) → Hit (either d e) (orElse m q u)
 hit-alt true e m q u h k = (h .0, h .1, ap (λ (z : Match). orElse z q u) (h .2))
-hit-alt false true m q u h k = (max 1 (lift 0 (k .0)), omega (arith, lift-le 0 (k .0), k .1), ap (λ (z : Match). orElse z q u) h ∙ ap (λ (z : Match). join 0 1 z) (k .2))
+hit-alt false true m q u h k =
+    (max 1 (lift 0 (k .0)), omega (arith, lift-le 0 (k .0), k .1), ap (λ (z : Match). orElse z q u) h ∙ ap (λ (z : Match). join 0 1 z) (k .2))
 hit-alt false false m q u h k = ap (λ (z : Match). orElse z q u) h ∙ ap (λ (z : Match). join 0 1 z) k
 
 one-alt : (a b : Peg) (f g : ℕ → Bool) → One a f → One b g → One (alt a b) (λ x. either (f x) (g x))
@@ -138,22 +139,29 @@ one-class Digit = one-range 48 57
 one-class Hexdigit = one-alt _ _ _ _ (one-alt _ _ _ _ (one-range 48 57) (one-range 97 102)) (one-range 65 70)
 
 -- ---- a star of one byte
-again-one : (d : Bool) (m : Match) (q : List ℕ → Match) (x : ℕ) (t : List ℕ) (n : ℕ) → Hit d m → q t ≡ Took n (suc n) → again m q (x ∷ t) ≡ Took (sucIf d n) (suc (sucIf d n))
-again-one true m q x t n h e = ap (λ (z : Match). again z q (x ∷ t)) (h .2) ∙ ap (λ (z : Match). join 1 (h .0) z) e ∙ ap₂ Took (omega arith) (let k : h .0 ≤ 1 = h .1 in omega arith)
+again-one : (d : Bool) (m : Match) (q : List ℕ → Match) (x : ℕ) (t : List ℕ) (n : ℕ) → Hit d m → q t ≡ Took n (suc n)
+    → again m q (x ∷ t) ≡ Took (sucIf d n) (suc (sucIf d n))
+again-one true m q x t n h e =
+    let k : h .0 ≤ 1 = h .1 in
+    ap (λ (z : Match). again z q (x ∷ t)) (h .2) ∙ ap (λ (z : Match). join 1 (h .0) z) e ∙ ap₂ Took (omega arith) (omega arith)
 again-one false m q x t n h e = ap (λ (z : Match). again z q (x ∷ t)) h
 
 many-one : (p : List ℕ → Match) (f : ℕ → Bool) → ((t : List ℕ) → Ones f t (p t)) → (t : List ℕ) → many (suc (length t)) p t ≡ Took (span f t) (suc (span f t))
 unfolding many span
 many-one p f h [] = ap (λ (z : Match). again z (λ u. many 0 p u) []) (h [])
-many-one p f h (x ∷ t) = again-one (f x) (p (x ∷ t)) (λ u. many (suc (length t)) p u) x t (span f t) (h (x ∷ t)) (many-one p f h t)
+many-one p f h (x ∷ t) =
+    again-one (f x) (p (x ∷ t)) (λ u. many (suc (length t)) p u) x t (span f t) (h (x ∷ t)) (many-one p f h t)
 
 pub star-one : (k : Class) (t : List ℕ) → run (star (bytewise (one-of k))) t ≡ Took (span (classed k) t) (suc (span (classed k) t))
 unfolding run
 star-one k t = many-one (λ u. run (bytewise (one-of k)) u) (classed k) (one-class k) t
 
 -- ---- a word: one byte of a class, and then a run of another
-after-one : (d : Bool) (m : Match) (q : List ℕ → Match) (x : ℕ) (t : List ℕ) (n : ℕ) → Hit d m → q t ≡ Took n (suc n) → after m q (x ∷ t) ≡ pick d (Took (suc n) (suc (suc n))) (Missed 1)
-after-one true m q x t n h e = ap (λ (z : Match). after z q (x ∷ t)) (h .2) ∙ ap (λ (z : Match). join 1 (h .0) z) e ∙ ap₂ Took (omega arith) (let k : h .0 ≤ 1 = h .1 in omega arith)
+after-one : (d : Bool) (m : Match) (q : List ℕ → Match) (x : ℕ) (t : List ℕ) (n : ℕ) → Hit d m → q t ≡ Took n (suc n)
+    → after m q (x ∷ t) ≡ pick d (Took (suc n) (suc (suc n))) (Missed 1)
+after-one true m q x t n h e =
+    let k : h .0 ≤ 1 = h .1 in
+    ap (λ (z : Match). after z q (x ∷ t)) (h .2) ∙ ap (λ (z : Match). join 1 (h .0) z) e ∙ ap₂ Took (omega arith) (omega arith)
 after-one false m q x t n h e = ap (λ (z : Match). after z q (x ∷ t)) h
 
 module _ (h k : Class) where
@@ -161,9 +169,13 @@ module _ (h k : Class) where
   unfolding run
   word-nil = ap (λ (z : Match). after z (λ u. run (star (bytewise (one-of k))) u) []) (one-class h [])
 
-  word-cons : (x : ℕ) (t : List ℕ) → run (seq (bytewise (one-of h)) (star (bytewise (one-of k)))) (x ∷ t) ≡ pick (classed h x) (Took (suc (span (classed k) t)) (suc (suc (span (classed k) t)))) (Missed 1)
+  word-cons : (x : ℕ) (t : List ℕ)
+      → run (seq (bytewise (one-of h)) (star (bytewise (one-of k)))) (x ∷ t)
+      ≡ pick (classed h x) (Took (suc (span (classed k) t)) (suc (suc (span (classed k) t)))) (Missed 1)
   unfolding run
-  word-cons x t = after-one (classed h x) (run (bytewise (one-of h)) (x ∷ t)) (λ u. run (star (bytewise (one-of k))) u) x t (span (classed k) t) (one-class h (x ∷ t)) (star-one k t)
+  word-cons x t =
+      after-one (classed h x) (run (bytewise (one-of h)) (x ∷ t)) (λ u. run (star (bytewise (one-of k))) u) x t (span (classed k) t)
+      (one-class h (x ∷ t)) (star-one k t)
 
   -- the three answers of the code
   pub word-none : (t : List ℕ) → length t ≡ 0 → Reads (seq (one-of h) (star (one-of k))) t (Missed 1)
@@ -174,7 +186,8 @@ module _ (h k : Class) where
   word-not [] n e = absurd (n refl)
   word-not (x ∷ t) n e = reads (seq (one-of h) (star (one-of k))) (x ∷ t) (Missed 1) (sym (word-cons x t ∙ rw e))
 
-  pub word-is : (t : List ℕ) (r : ℕ) → (length t ≡ 0 → ⊥) → classed h (getD t 0 0) ≡ true → Runs (classed k) (take (length t - 1) (drop 1 t)) r → Reads (seq (one-of h) (star (one-of k))) t (Took (r + 1) (r + 2))
+  pub word-is : (t : List ℕ) (r : ℕ) → (length t ≡ 0 → ⊥) → classed h (getD t 0 0) ≡ true → Runs (classed k) (take (length t - 1) (drop 1 t)) r
+      → Reads (seq (one-of h) (star (one-of k))) t (Took (r + 1) (r + 2))
   word-is [] r n e q = absurd (n refl)
   word-is (x ∷ t) r n e q =
       let z : r ≡ span (classed k) t = q .is ∙ ap (span (classed k)) (rest-is 1 (x ∷ t)) in
@@ -188,7 +201,8 @@ white (x ∷ t) = pick (eqb 32 x) (Took 1 0) (pick (spaceb x) (Took 1 1) (Missed
 white-is : (t : List ℕ) → run (bytewise WHITESPACE) t ≡ white t
 unfolding run WHITESPACE white
 white-is [] = refl
-white-is (x ∷ t) = go (eqb 32 x) (eqb 10 x) (eqb 13 x) (eqb 9 x) (λ u. run (lit (10 ∷ [])) u) (λ u. run (lit (13 ∷ [])) u) (λ u. run (lit (9 ∷ [])) u) refl refl refl
+white-is (x ∷ t) =
+    go (eqb 32 x) (eqb 10 x) (eqb 13 x) (eqb 9 x) (λ u. run (lit (10 ∷ [])) u) (λ u. run (lit (13 ∷ [])) u) (λ u. run (lit (9 ∷ [])) u) refl refl refl
   where
     one : Bool → Match
     one d = pick (both d true) (Took 1 0) (Missed 1)

@@ -37,18 +37,22 @@ pub fn comment(s: &[u8]) -> Match
     }
 }
 
-// How long the blank run at the front is. It never misses, and no try inside it counts.
+// How long the blank run at the front is. It never misses, and no try inside it counts. A comment is looked for only at a slash.
 pub fn blanks(s: &[u8]) -> usize
     ensures { λ r. ⌜ Skips (now (s .entry)) r ⌝ }
 {
-    let mut n = run_of(s, Class::Space);
+    let mut n = 0;
     loop {
+        n += run_of(&s[n..], Class::Space);
+        if s.len() <= n {
+            return n;
+        }
+        if s[n] != b'/' {
+            return n;
+        }
         match comment(&s[n..]) {
             Match::Missed(_) => return n,
-            Match::Took(k, _) => {
-                n += k;
-                n += run_of(&s[n..], Class::Space);
-            }
+            Match::Took(k, _) => n += k,
         }
     }
 }

@@ -49,28 +49,28 @@ pub fn is_space(b: u8) -> bool
 }
 
 // A letter.
-pub fn is_alpha(b: u8) -> bool
+fn is_alpha(b: u8) -> bool
     ensures { λ r. ⌜ r ≡ alphab b ⌝ }
 {
     or(between(b'a', b'z', b), between(b'A', b'Z', b))
 }
 
 // A digit.
-pub fn is_digit(b: u8) -> bool
+fn is_digit(b: u8) -> bool
     ensures { λ r. ⌜ r ≡ digitb b ⌝ }
 {
     between(b'0', b'9', b)
 }
 
 // A letter, a digit or an underscore.
-pub fn is_alphanum(b: u8) -> bool
+fn is_alphanum(b: u8) -> bool
     ensures { λ r. ⌜ r ≡ alphanumb b ⌝ }
 {
     or(or(is_alpha(b), is_digit(b)), same(b'_', b))
 }
 
 // A digit of base 16.
-pub fn is_hexdigit(b: u8) -> bool
+fn is_hexdigit(b: u8) -> bool
     ensures { λ r. ⌜ r ≡ hexb b ⌝ }
 {
     or(

@@ -32,20 +32,24 @@ pub fn then_literal(s: &[u8], m: Match, l: &[u8]) -> Match
     }
 }
 
-// All bytes before the first l.
-pub fn up_to(s: &[u8], l: &[u8]) -> Match
+// All bytes before the first l, which is looked for only where its first byte stands.
+fn up_to(s: &[u8], l: &[u8]) -> Match
     ensures { λ r. ⌜ Reads (star (seq (neg (lit (now (l .entry)))) any)) (now (s .entry)) r ⌝ }
 {
+    if l.len() == 0 {
+        return Match::Took(0, 0);
+    }
+    let first = l[0];
     let mut i = 0;
-    loop {
-        if let Match::Took(_, _) = literal(&s[i..], l) {
-            return Match::Took(i, 0);
-        }
-        if i == s.len() {
-            return Match::Took(i, i + 1);
+    while i < s.len() {
+        if s[i] == first {
+            if let Match::Took(_, _) = literal(&s[i..], l) {
+                return Match::Took(i, 0);
+            }
         }
         i += 1;
     }
+    Match::Took(i, i + 1)
 }
 
 // All bytes before the first l, where m ends.
@@ -61,7 +65,8 @@ pub fn then_up_to(s: &[u8], m: Match, l: &[u8]) -> Match
 
 // The text opening, all bytes before the first closing, and closing: a block comment, a string.
 pub fn enclosed(s: &[u8], opening: &[u8], closing: &[u8]) -> Match
-    ensures { λ r. ⌜ Reads (seq (seq (lit (now (opening .entry))) (star (seq (neg (lit (now (closing .entry)))) any))) (lit (now (closing .entry)))) (now (s .entry)) r ⌝ }
+    ensures { λ r. ⌜ Reads (seq (seq (lit (now (opening .entry))) (star (seq (neg (lit (now (closing .entry)))) any))) (lit (now (closing .entry))))
+        (now (s .entry)) r ⌝ }
 {
     then_literal(s, then_up_to(s, literal(s, opening), closing), closing)
 }

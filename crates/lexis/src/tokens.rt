@@ -111,14 +111,6 @@ pub fn then_integer(s: &[u8], m: Match) -> Match
     }
 }
 
-// A number after a blank run, where m ends.
-pub fn next_integer(s: &[u8], m: Match) -> Match
-    requires { ⌜ Within m (now s) ⌝ }
-    ensures { λ r. ⌜ Steps m (seq skip integer) (now (s .entry)) r ⌝ }
-{
-    then_integer(s, then_blanks(s, m))
-}
-
 // A text in quotes, with no escapes.
 pub fn string(s: &[u8]) -> Match
     ensures { λ r. ⌜ Reads string (now (s .entry)) r ⌝ }

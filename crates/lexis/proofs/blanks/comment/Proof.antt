@@ -7,11 +7,18 @@ use Rattle.lexis.proofs.blanks.comment.Tie as tie
 
 returns : tie.Need-returns
 unfolding COMMENT
-returns c = named Rule.COMMENT (choice (c .before .before .before .block-comment .ensures) (kept _ _ ((c .before .before .before .block-comment .ensures) .fits) (c .before .n .given .1)))
+returns c =
+    let a = c .before .before .before in
+    named Rule.COMMENT (choice (a .block-comment .ensures) (kept _ _ ((a .block-comment .ensures) .fits) (c .before .n .given .1)))
 
 returns-2 : tie.Need-returns-2
 unfolding COMMENT
-returns-2 c = named Rule.COMMENT (choice (c .before .before .before .before .before .block-comment .ensures) (tried _ ((c .before .before .before .before .before .block-comment .ensures) .fits) (c .before .before .before .f .given .1) (c .before .line-comment .ensures) (c .joined .ensures)))
+returns-2 c =
+    let a = c .before .before .before in
+    named Rule.COMMENT (choice (a .before .before .block-comment .ensures)
+    (tried _ ((a .before .before .block-comment .ensures) .fits) (a .f .given .1) (c .before .line-comment .ensures) (c .joined .ensures)))
 
 pub comment-spec : {M : Type 1} → statement M
-comment-spec = tie.close (tie.spec (λ c κs. search needs) (λ c. search needs) (λ c. search needs) (λ c κs. search needs) (λ c κs. search needs) returns returns-2)
+comment-spec =
+    tie.close
+    (tie.spec (λ c κs. search needs) (λ c. search needs) (λ c. search needs) (λ c κs. search needs) (λ c κs. search needs) returns returns-2)

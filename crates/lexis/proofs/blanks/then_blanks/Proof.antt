@@ -14,7 +14,9 @@ returns : tie.Need-returns
 returns c = missed _ (c .before .before .before .before .pre) (c .before .m .given .1)
 
 returns-2 : tie.Need-returns-2
-returns-2 c = skip-steps _ _ (c .before .before .before .before .before .before .pre) (c .before .before .before .m2 .given .1) (c .blanks .ensures)
+returns-2 c =
+    let a = c .before .before .before in
+    skip-steps (a .before .before .before .pre) (a .m2 .given .1) (c .blanks .ensures)
 
 pub then-blanks-spec : {M : Type 1} → statement M
 then-blanks-spec =

@@ -6,4 +6,6 @@ returns : tie.Need-returns
 returns c = cc
 
 pub is-alphanum-spec : {M : Type 1} → statement M
-is-alphanum-spec = tie.close (tie.spec (λ c κs. search needs) (λ c κs. search needs) (λ c κs. search needs) (λ c κs. search needs) (λ c κs. search needs) returns)
+is-alphanum-spec =
+    tie.close
+    (tie.spec (λ c κs. search needs) (λ c κs. search needs) (λ c κs. search needs) (λ c κs. search needs) (λ c κs. search needs) returns)

@@ -6,4 +6,6 @@ returns : tie.Need-returns
 returns c = cc
 
 pub is-hexdigit-spec : {M : Type 1} → statement M
-is-hexdigit-spec = tie.close (tie.spec (λ c κs. search needs) (λ c κs. search needs) (λ c κs. search needs) (λ c κs. search needs) (λ c κs. search needs) returns)
+is-hexdigit-spec =
+    tie.close
+    (tie.spec (λ c κs. search needs) (λ c κs. search needs) (λ c κs. search needs) (λ c κs. search needs) (λ c κs. search needs) returns)

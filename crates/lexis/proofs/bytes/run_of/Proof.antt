@@ -23,7 +23,10 @@ in-class-requires : tie.Need-in-class-requires Inv-loop μ-loop
 in-class-requires c κs = tt
 
 returns : tie.Need-returns Inv-loop μ-loop
-returns c = runs _ _ _ (sym ((c .before .before .before .before .loop .inv .1) ∙ span-stop _ _ _ (c .before .before .before .loop-test .taken) (sym (c .before .in-class .ensures) ∙ not-true _ (c .if1 .taken))))
+returns c =
+    let a = c .before .before .before in
+    runs _ _ _ (sym ((a .before .loop .inv .1) ∙ span-stop _ _ _ (a .loop-test .taken)
+    (sym (c .before .in-class .ensures) ∙ not-true _ (c .if1 .taken))))
 
 add-i : tie.Need-add-i Inv-loop μ-loop
 add-i c = omega arith
@@ -32,7 +35,9 @@ loop-less : tie.Need-loop-less Inv-loop μ-loop
 loop-less c = omega arith
 
 loop-again : tie.Need-loop-again Inv-loop μ-loop
-loop-again c = (omega arith, (c .before .before .before .before .loop .inv .1) ∙ span-step _ _ _ (c .before .before .before .loop-test .taken) (sym (c .before .in-class .ensures) ∙ not-false _ (c .if1 .left)))
+loop-again c =
+    let a = c .before .before .before in
+    (omega arith, (a .before .loop .inv .1) ∙ span-step _ _ _ (a .loop-test .taken) (sym (c .before .in-class .ensures) ∙ not-false _ (c .if1 .left)))
 
 returns-2 : tie.Need-returns-2 Inv-loop μ-loop
 returns-2 c = runs _ _ _ (sym ((c .before .loop .inv .1) ∙ span-end _ _ _ (c .loop-test .left)))

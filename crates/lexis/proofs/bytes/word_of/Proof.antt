@@ -9,10 +9,16 @@ returns : tie.Need-returns
 returns c = word-none (c .before .before .args .head) (c .before .before .args .tail) _ (c .if1 .taken)
 
 returns-2 : tie.Need-returns-2
-returns-2 c = word-not (c .before .before .before .before .before .args .head) (c .before .before .before .before .before .args .tail) _ (c .before .before .before .if1 .left) (sym (c .before .in-class .ensures) ∙ not-true _ (c .if2 .taken))
+returns-2 c =
+    let a = c .before .before .before in
+    word-not (a .before .before .args .head) (a .before .before .args .tail) _ (a .if1 .left)
+    (sym (c .before .in-class .ensures) ∙ not-true _ (c .if2 .taken))
 
 returns-3 : tie.Need-returns-3
-returns-3 c = word-is (c .before .before .before .before .before .before .before .args .head) (c .before .before .before .before .before .before .before .args .tail) _ _ (c .before .before .before .before .before .if1 .left) (sym (c .before .before .before .in-class .ensures) ∙ not-false _ (c .before .before .if2 .left)) (c .run-of .ensures)
+returns-3 c =
+    let a = c .before .before .before .before .before in
+    word-is (a .before .before .args .head) (a .before .before .args .tail) _ _ (a .if1 .left)
+    (sym (c .before .before .before .in-class .ensures) ∙ not-false _ (c .before .before .if2 .left)) (c .run-of .ensures)
 
 pub word-of-spec : {M : Type 1} → statement M
 word-of-spec =

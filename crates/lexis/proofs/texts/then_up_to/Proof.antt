@@ -11,13 +11,17 @@ part-up-to-start : tie.Need-part-up-to-start
 part-up-to-start c = took-le _ _ _ _ (c .before .before .before .before .before .pre) (c .before .m2 .given .1)
 
 joined-requires : tie.Need-joined-requires
-joined-requires c κs = (took-le _ _ _ _ (c .before .before .before .before .before .before .before .pre) (c .before .before .before .m2 .given .1), (at _ (now (c .before .before .before .before .before .before .before .args .s)) (c .up-to .ensures)) .fits)
+joined-requires c κs =
+    let a = c .before .before .before .before .before .before .before in
+    (took-le _ _ _ _ (a .pre) (c .before .before .before .m2 .given .1), (at _ (now (a .args .s)) (c .up-to .ensures)) .fits)
 
 returns : tie.Need-returns
 returns c = missed _ (c .before .before .before .before .before .pre) (c .before .m .given .1)
 
 returns-2 : tie.Need-returns-2
-returns-2 c = took _ _ (c .before .before .before .before .before .before .before .before .pre) (c .before .before .before .before .m2 .given .1) (c .before .up-to .ensures) (c .joined .ensures)
+returns-2 c =
+    let a = c .before .before .before .before in
+    took _ _ (a .before .before .before .before .pre) (a .m2 .given .1) (c .before .up-to .ensures) (c .joined .ensures)
 
 pub then-up-to-spec : {M : Type 1} → statement M
 then-up-to-spec =

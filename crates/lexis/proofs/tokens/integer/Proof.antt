@@ -7,11 +7,18 @@ use Rattle.lexis.proofs.tokens.integer.Tie as tie
 
 returns : tie.Need-returns
 unfolding integer
-returns c = named Rule.integer (choice (c .before .before .before .hexvalue .ensures) (kept _ _ ((c .before .before .before .hexvalue .ensures) .fits) (c .before .n .given .1)))
+returns c =
+    let a = c .before .before .before in
+    named Rule.integer (choice (a .hexvalue .ensures) (kept _ _ ((a .hexvalue .ensures) .fits) (c .before .n .given .1)))
 
 returns-2 : tie.Need-returns-2
 unfolding integer
-returns-2 c = named Rule.integer (choice (c .before .before .before .before .before .hexvalue .ensures) (tried _ ((c .before .before .before .before .before .hexvalue .ensures) .fits) (c .before .before .before .f .given .1) (c .before .intvalue .ensures) (c .joined .ensures)))
+returns-2 c =
+    let a = c .before .before .before in
+    named Rule.integer (choice (a .before .before .hexvalue .ensures)
+    (tried _ ((a .before .before .hexvalue .ensures) .fits) (a .f .given .1) (c .before .intvalue .ensures) (c .joined .ensures)))
 
 pub integer-spec : {M : Type 1} → statement M
-integer-spec = tie.close (tie.spec (λ c κs. search needs) (λ c. search needs) (λ c. search needs) (λ c κs. search needs) (λ c κs. search needs) returns returns-2)
+integer-spec =
+    tie.close
+    (tie.spec (λ c κs. search needs) (λ c. search needs) (λ c. search needs) (λ c κs. search needs) (λ c κs. search needs) returns returns-2)

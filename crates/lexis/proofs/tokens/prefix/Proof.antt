@@ -7,7 +7,10 @@ returns : tie.Need-returns
 returns c = (choice (c .before .before .before .literal .ensures) (kept _ _ ((c .before .before .before .literal .ensures) .fits) (c .before .n .given .1)))
 
 returns-2 : tie.Need-returns-2
-returns-2 c = (choice (c .before .before .before .before .before .before .literal .ensures) (tried _ ((c .before .before .before .before .before .before .literal .ensures) .fits) (c .before .before .before .before .f .given .1) (c .before .literal2 .ensures) (c .joined .ensures)))
+returns-2 c =
+    let a = c .before .before .before .before in
+    (choice (a .before .before .literal .ensures) (tried _ ((a .before .before .literal .ensures) .fits) (a .f .given .1)
+    (c .before .literal2 .ensures) (c .joined .ensures)))
 
 pub prefix-spec : {M : Type 1} → statement M
 prefix-spec =

@@ -11,10 +11,14 @@ returns-2 : tie.Need-returns-2
 returns-2 c = white-space _ (c .before .before .if1 .left) (c .if2 .taken)
 
 returns-3 : tie.Need-returns-3
-returns-3 c = white-other _ (c .before .before .before .before .before .if1 .left) (c .before .before .before .if2 .left) (sym (c .before .is-space .ensures) ∙ (c .if3 .taken))
+returns-3 c =
+    let a = c .before .before .before in
+    white-other _ (a .before .before .if1 .left) (a .if2 .left) (sym (c .before .is-space .ensures) ∙ (c .if3 .taken))
 
 returns-4 : tie.Need-returns-4
-returns-4 c = white-not _ (c .before .before .before .before .before .if1 .left) (c .before .before .before .if2 .left) (sym (c .before .is-space .ensures) ∙ (c .if3 .left))
+returns-4 c =
+    let a = c .before .before .before in
+    white-not _ (a .before .before .if1 .left) (a .if2 .left) (sym (c .before .is-space .ensures) ∙ (c .if3 .left))
 
 pub whitespace-spec : {M : Type 1} → statement M
 whitespace-spec = tie.close (tie.spec returns (λ c. search needs) returns-2 (λ c. search needs) (λ c κs. search needs) returns-3 returns-4)

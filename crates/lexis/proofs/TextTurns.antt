@@ -1,4 +1,4 @@
--- The laws of texts: a text byte by byte, and all bytes before one.
+-- The turns of a text: byte by byte, and all bytes before one.
 use Prim.Native.Nat.{ℕ, _+_, _-_, _≤_, _<_}
 use native.Mathlib.Omega.{arith}
 use native.Mathlib.Numerals.{add-one}
@@ -16,7 +16,8 @@ use Rattle.grammar.specs.Matching.{Reads, Steps}
 use Rattle.grammar.specs.Steps.{reads, steps, start, at, Rest, rest-start, rest-more, rest-done}
 
 -- ---- a text
-pub prefix-step : (l s : List ℕ) (i : ℕ) → i < length l → i < length s → getD s i 0 ≡ getD l i 0 → prefixb (drop i l) (drop i s) ≡ prefixb (drop (i + 1) l) (drop (i + 1) s)
+pub prefix-step : (l s : List ℕ) (i : ℕ) → i < length l → i < length s → getD s i 0 ≡ getD l i 0
+    → prefixb (drop i l) (drop i s) ≡ prefixb (drop (i + 1) l) (drop (i + 1) s)
 prefix-step l s i hl hs e = rw (add-one, drop-cons l i 0 hl, drop-cons s i 0 hs, eq-eqb (getD l i 0) (getD s i 0) (sym e))
 
 pub prefix-stop : (l s : List ℕ) (i : ℕ) → i < length l → length s ≤ i → prefixb (drop i l) (drop i s) ≡ false
@@ -50,11 +51,21 @@ lit-not l u m g h e = go (prefixb l u) (sym e ∙ h .is)
     go true q = cc
     go false q = refl
 
+-- where a text cannot stand: at the end, and at another byte than its first
+absent-end : (l t : List ℕ) (i : ℕ) → (length l ≡ 0 → ⊥) → length t ≤ i → prefixb l (drop i t) ≡ false
+absent-end [] t i n h = absurd (n refl)
+absent-end (x ∷ l) t i n h = rw (drop-of-length-le t h)
+
+absent-first : (l t : List ℕ) (i : ℕ) → (length l ≡ 0 → ⊥) → i < length t → (getD t i 0 ≡ getD l 0 0 → ⊥) → prefixb l (drop i t) ≡ false
+absent-first [] t i n h d = absurd (n refl)
+absent-first (x ∷ l) t i n h d = rw (drop-cons t i 0 h, ne-eqb x (getD t i 0) (λ e. d (sym e)))
+
 -- ---- all bytes before a text: one turn, at u
 abbrev pub before : List ℕ → Peg
 before l = seq (neg (lit l)) any
 
-turn-is : (l u : List ℕ) → run (seq (neg (lit l)) any-byte) u ≡ after (turned (pick (prefixb l u) (Took (length l) 0) (Missed 1))) (λ v. oneByte (λ x. true) v) u
+turn-is : (l u : List ℕ)
+    → run (seq (neg (lit l)) any-byte) u ≡ after (turned (pick (prefixb l u) (Took (length l) 0) (Missed 1))) (λ v. oneByte (λ x. true) v) u
 unfolding run
 turn-is l u = refl
 
@@ -69,19 +80,38 @@ turn-one : (l u : List ℕ) → prefixb l u ≡ false → 0 < length u → run (
 turn-one l [] e h = absurd (omega arith)
 turn-one l (x ∷ u) e h = turn-is l (x ∷ u) ∙ rw e
 
--- the loop has come to i, where a text was looked for with the answer m
+-- the loop has come to i
 pub come : (l t : List ℕ) → Rest (before l) t (Took 0 0) (Took 0 0)
 come l t = rest-start t (Took 0 0) (omega arith)
 
-module _ (l t : List ℕ) (i : ℕ) (m : Match) (h : Reads (lit l) (take (length t - i) (drop i t)) m) (v : Rest (before l) t (Took 0 0) (Took i 0)) where
-  goes : (x : Match) → run (seq (neg (lit l)) any-byte) (drop i t) ≡ x → Steps (Took i 0) (before l) t (join i 0 x)
-  goes x e = steps (Took i 0) (before l) t (join i 0 x) (v .fits) (ap (λ (y : Match). join i 0 y) (sym e))
+module _ {l t : List ℕ} {i : ℕ} (v : Rest (before l) t (Took 0 0) (Took i 0)) where
+  goes : {x : Match} → run (seq (neg (lit l)) any-byte) (drop i t) ≡ x → Steps (Took i 0) (before l) t (join i 0 x)
+  goes {x} e = steps (Took i 0) (before l) t (join i 0 x) (v .fits) (ap (λ (y : Match). join i 0 y) (sym e))
 
-  pub upto-hit : (k g : ℕ) → m ≡ Took k g → Reads (star (before l)) t (Took i 0)
-  upto-hit k g e = start (rest-done 0 refl (omega arith) v (goes (Missed 0) (turn-hit l (drop i t) (lit-hit l (drop i t) m k g (at i t h) e))) refl refl)
+  done : prefixb l (drop i t) ≡ true → Reads (star (before l)) t (Took i 0)
+  done e = start (rest-done 0 refl (omega arith) v (goes (turn-hit l (drop i t) e)) refl refl)
 
-  pub upto-end : (g : ℕ) → m ≡ Missed g → i ≡ length t → Reads (star (before l)) t (Took i (i + 1))
-  upto-end g e q = start (rest-done (i + 1) refl (omega arith) v (goes (Missed 1) (turn-end l (drop i t) (lit-not l (drop i t) m g (at i t h) e) (omega (arith, length-drop i t)))) (ap Missed (omega arith)) (ap (λ (k : ℕ). Took i k) (omega arith)))
+  more : prefixb l (drop i t) ≡ false → i < length t → Rest (before l) t (Took 0 0) (Took (i + 1) 0)
+  more e q = rest-more (i + 1) 0 refl v (goes (turn-one l (drop i t) e (omega (arith, length-drop i t)))) refl
 
-  pub upto-more : (g : ℕ) → m ≡ Missed g → i < length t → Rest (before l) t (Took 0 0) (Took (i + 1) 0)
-  upto-more g e q = rest-more (i + 1) 0 refl v (goes (Took 1 0) (turn-one l (drop i t) (lit-not l (drop i t) m g (at i t h) e) (omega (arith, length-drop i t)))) refl
+  -- the text is looked for at i, with the answer m, or another byte than its first stands there
+  module _ {m : Match} (h : Reads (lit l) (take (length t - i) (drop i t)) m) where
+    pub upto-hit : {k g : ℕ} → m ≡ Took k g → Reads (star (before l)) t (Took i 0)
+    upto-hit {k} {g} e = done (lit-hit l (drop i t) m k g (at i t h) e)
+
+    pub upto-miss : {g : ℕ} → m ≡ Missed g → i < length t → Rest (before l) t (Took 0 0) (Took (i + 1) 0)
+    upto-miss {g} e q = more (lit-not l (drop i t) m g (at i t h) e) q
+
+  pub upto-other : (length l ≡ 0 → ⊥) → i < length t → (getD t i 0 ≡ getD l 0 0 → ⊥) → Rest (before l) t (Took 0 0) (Took (i + 1) 0)
+  upto-other n q d = more (absent-first l t i n q d) q
+
+  pub upto-end : (length l ≡ 0 → ⊥) → length t ≤ i → Reads (star (before l)) t (Took i (i + 1))
+  upto-end n q =
+      start
+      (rest-done (i + 1) refl (omega arith) v (goes (turn-end l (drop i t) (absent-end l t i n q) (omega (arith, length-drop i t))))
+      (ap Missed (omega arith)) (ap (λ (k : ℕ). Took i k) (omega arith)))
+
+-- no byte stands before the empty text
+pub upto-none : (l t : List ℕ) → length l ≡ 0 → Reads (star (before l)) t (Took 0 0)
+upto-none [] t e = done (come [] t) refl
+upto-none (x ∷ l) t e = absurd (omega arith)
