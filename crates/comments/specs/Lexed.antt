@@ -21,20 +21,16 @@ use Rattle.meaning.specs.Walk.{comment-row, comments}
 use Rattle.grammar.specs.Picks.{both-1, both-2}
 use Rattle.grammar.specs.Agree.{same}
 use Rattle.comments.specs.Lex.{lex, lexical}
-use Rattle.comments.specs.LexLaws.{lex-none, lex-plain, lex-comment, lex-string}
+use Rattle.comments.specs.LexLaws.{lex-none, lex-plain, lex-comment, lex-string, plain-byte, not-first, not-second}
 use Rattle.comments.specs.Yields.{Yields, comments-node, yields-nil, yields-after, yields-many, yields-orElse, yields-maybe, yields-turned, yields-hushed, yields-note}
 
 -- ---- the test
--- a byte that neither a comment nor a string starts with
-abbrev pub plain-byte : ℕ → Bool
-plain-byte x = pick (eqb 47 x) false (pick (eqb 34 x) false true)
-
-abbrev pub plain-bytes : List ℕ → Bool
+abbrev plain-bytes : List ℕ → Bool
 plain-bytes [] = true
 plain-bytes (x ∷ l) = both (plain-byte x) (plain-bytes l)
 
 -- no part but comments and strings takes a slash or a quote
-abbrev pub plain : Peg → Bool
+abbrev plain : Peg → Bool
 plain (lit l) = plain-bytes l
 plain (range lo hi) = pick (within lo hi 47) false (pick (within lo hi 34) false true)
 plain any = false
@@ -49,7 +45,7 @@ plain (quiet p) = plain p
 plain (rule r p) = pick (is Rule.COMMENT r) true (pick (is Rule.string r) true (plain p))
 
 -- the same expression, with the grammar's own comments and strings for the nodes of these names
-abbrev pub usual : Peg → Peg
+abbrev usual : Peg → Peg
 usual (lit l) = lit l
 usual (range lo hi) = range lo hi
 usual any = any
@@ -62,15 +58,6 @@ usual (star p) = star (usual p)
 usual (opt p) = opt (usual p)
 usual (quiet p) = quiet (usual p)
 usual (rule r p) = pick (is Rule.COMMENT r) (bytewise COMMENT) (pick (is Rule.string r) (bytewise string) (rule r (usual p)))
-
-not-first : (a b : Bool) → pick a false (pick b false true) ≡ true → a ≡ false
-not-first true b e = cc
-not-first false b e = refl
-
-not-second : (a b : Bool) → pick a false (pick b false true) ≡ true → b ≡ false
-not-second true b e = cc
-not-second false true e = cc
-not-second false false e = refl
 
 -- ---- comments and strings have no comments in them
 abbrev none : ℕ → List ℕ → List Item
@@ -86,15 +73,20 @@ module _ (src : List ℕ) where
   unfolding eval
   bare-upto l o t =
       yields-many src none (suc (length t)) (λ i u. eval (seq (neg (lit l)) any-byte) i u) o t
-      (λ i u. yields-after src none (eval (neg (lit l)) i u) (λ j v. eval any-byte j v) i u (yields-turned src none (eval (lit l) i u) i u) (λ j v. bare-leaf (oneByte (λ x. true) v) j v))
+      (λ i u. yields-after src none (eval (neg (lit l)) i u) (λ j v. eval any-byte j v) i u (yields-turned src none (eval (lit l) i u) i u)
+      (λ j v. bare-leaf (oneByte (λ x. true) v) j v))
 
   bare-line : (a c : List ℕ) (o : ℕ) (t : List ℕ) → Yields src none (eval (seq (lit a) (star (seq (neg (lit c)) any-byte))) o t) o t
   unfolding eval run
-  bare-line a c o t = yields-after src none (eval (lit a) o t) (λ i u. eval (star (seq (neg (lit c)) any-byte)) i u) o t (bare-leaf (run (lit a) t) o t) (λ i u. bare-upto c i u)
+  bare-line a c o t =
+      yields-after src none (eval (lit a) o t) (λ i u. eval (star (seq (neg (lit c)) any-byte)) i u) o t (bare-leaf (run (lit a) t) o t)
+      (λ i u. bare-upto c i u)
 
   bare-enclosed : (a c : List ℕ) (o : ℕ) (t : List ℕ) → Yields src none (eval (seq (seq (lit a) (star (seq (neg (lit c)) any-byte))) (lit c)) o t) o t
   unfolding eval run
-  bare-enclosed a c o t = yields-after src none (eval (seq (lit a) (star (seq (neg (lit c)) any-byte))) o t) (λ i u. eval (lit c) i u) o t (bare-line a c o t) (λ i u. bare-leaf (run (lit c) u) i u)
+  bare-enclosed a c o t =
+      yields-after src none (eval (seq (lit a) (star (seq (neg (lit c)) any-byte))) o t) (λ i u. eval (lit c) i u) o t (bare-line a c o t)
+      (λ i u. bare-leaf (run (lit c) u) i u)
 
   -- ---- a comment, and a string
   bare-none : (xs : List Item) → [] ≡ xs ++ [] → xs ≡ []
@@ -104,7 +96,8 @@ module _ (src : List ℕ) where
   unfolding eval run COMMENT block-comment line-comment
   comment-yields o t =
       go (eval body o t) (same body o t)
-      (yields-orElse src none (eval (bytewise block-comment) o t) (λ i u. eval (bytewise line-comment) i u) o t (bare-enclosed (47 ∷ 42 ∷ []) (42 ∷ 47 ∷ []) o t) (bare-line (47 ∷ 47 ∷ []) (10 ∷ []) o t))
+      (yields-orElse src none (eval (bytewise block-comment) o t) (λ i u. eval (bytewise line-comment) i u) o t
+      (bare-enclosed (47 ∷ 42 ∷ []) (42 ∷ 47 ∷ []) o t) (bare-line (47 ∷ 47 ∷ []) (10 ∷ []) o t))
     where
       body : Peg
       body = alt (bytewise block-comment) (bytewise line-comment)
@@ -114,7 +107,8 @@ module _ (src : List ℕ) where
       go (took n f w) e b =
           let a : run (bytewise COMMENT) t ≡ Took n f = sym e in
           let z : comments src w ≡ [] = bare-none (comments src w) b in
-          let c : comments src (tree Rule.COMMENT o n w nil) ≡ comment-row src o n = comments-node src Rule.COMMENT o n w ∙ ap (λ (ys : List Item). comment-row src o n ++ ys) z in
+          let c : comments src (tree Rule.COMMENT o n w nil) ≡ comment-row src o n
+          = comments-node src Rule.COMMENT o n w ∙ ap (λ (ys : List Item). comment-row src o n ++ ys) z in
           rw a at (lex-comment src o t (rw a)) ∙ ap (λ (ys : List Item). ys ++ lex src 0 (o + n) (drop n t)) (sym c)
 
   string-yields : (o : ℕ) (t : List ℕ) → Yields src (lex src 0) (eval (bytewise string) o t) o t
@@ -142,7 +136,8 @@ module _ (src : List ℕ) where
       lex-plain src o y t (not-first (eqb 47 y) (eqb 34 y) p) (not-second (eqb 47 y) (eqb 34 y) p)
       ∙ text-on l t (o + 1) (both-2 (plain-byte x) (plain-bytes l) s) (both-2 (eqb x y) (prefixb l t) h) ∙ rw q
 
-  lit-yields : (l : List ℕ) (o : ℕ) (t : List ℕ) → plain-bytes l ≡ true → (b : Bool) → prefixb l t ≡ b → Yields src (lex src 0) (leaf (pick b (Took (length l) 0) (Missed 1))) o t
+  lit-yields : (l : List ℕ) (o : ℕ) (t : List ℕ) → plain-bytes l ≡ true → (b : Bool) → prefixb l t ≡ b
+      → Yields src (lex src 0) (leaf (pick b (Took (length l) 0) (Missed 1))) o t
   unfolding comments
   lit-yields l o t s true h = text-on l t o s h
   lit-yields l o t s false h = tt
@@ -173,18 +168,21 @@ module _ (src : List ℕ) where
   node-yields r p o t false false e h q = yields-note src (lex src 0) r (eval (usual p) o t) o t e (q h)
 
   -- ---- every plain expression
-  pub plain-yields : (g : Peg) → plain g ≡ true → (o : ℕ) (t : List ℕ) → Yields src (lex src 0) (eval (usual g) o t) o t
+  plain-yields : (g : Peg) → plain g ≡ true → (o : ℕ) (t : List ℕ) → Yields src (lex src 0) (eval (usual g) o t) o t
   unfolding eval
   plain-yields (lit l) h o t = lit-yields l o t h (prefixb l t) refl
-  plain-yields (range lo hi) h o t = range-yields (within lo hi) o t (not-first (within lo hi 47) (within lo hi 34) h) (not-second (within lo hi 47) (within lo hi 34) h)
+  plain-yields (range lo hi) h o t =
+      range-yields (within lo hi) o t (not-first (within lo hi 47) (within lo hi 34) h) (not-second (within lo hi 47) (within lo hi 34) h)
   plain-yields any h o t = absurd (let z : _≡_ {A = ℕ} 0 1 = cc in omega arith)
   plain-yields any-byte h o t = absurd (let z : _≡_ {A = ℕ} 0 1 = cc in omega arith)
   plain-yields end h o t = end-yields o t
   plain-yields (neg p) h o t = yields-turned src (lex src 0) (eval (usual p) o t) o t
   plain-yields (seq a b) h o t =
-      yields-after src (lex src 0) (eval (usual a) o t) (λ i u. eval (usual b) i u) o t (plain-yields a (both-1 (plain a) (plain b) h) o t) (λ i u. plain-yields b (both-2 (plain a) (plain b) h) i u)
+      yields-after src (lex src 0) (eval (usual a) o t) (λ i u. eval (usual b) i u) o t (plain-yields a (both-1 (plain a) (plain b) h) o t)
+      (λ i u. plain-yields b (both-2 (plain a) (plain b) h) i u)
   plain-yields (alt a b) h o t =
-      yields-orElse src (lex src 0) (eval (usual a) o t) (λ i u. eval (usual b) i u) o t (plain-yields a (both-1 (plain a) (plain b) h) o t) (plain-yields b (both-2 (plain a) (plain b) h) o t)
+      yields-orElse src (lex src 0) (eval (usual a) o t) (λ i u. eval (usual b) i u) o t (plain-yields a (both-1 (plain a) (plain b) h) o t)
+      (plain-yields b (both-2 (plain a) (plain b) h) o t)
   plain-yields (star p) h o t = yields-many src (lex src 0) (suc (length t)) (λ i u. eval (usual p) i u) o t (λ i u. plain-yields p h i u)
   plain-yields (opt p) h o t = yields-maybe src (lex src 0) (eval (usual p) o t) o t (plain-yields p h o t)
   plain-yields (quiet p) h o t = yields-hushed src (lex src 0) (eval (usual p) o t) o t (plain-yields p h o t)

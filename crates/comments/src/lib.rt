@@ -5,6 +5,8 @@ ghost use Prim.Native.Nat.{_<_};
 ghost use lib.Dec.{eqb};
 ghost use lib.ListN.{length};
 ghost use Rattle.meaning.specs.Choice.{both};
+ghost use Rattle.lexis.specs.Classes.{Runs};
+ghost use Rattle.comments.specs.LexLaws.{plain-byte};
 ghost use Rattle.comments.specs.Lex.{comment-count, left, written};
 ghost use Rattle.comments.specs.Steps.{Closed, Comment, Past, kind-of, words};
 use ast::numbers;
@@ -70,6 +72,23 @@ fn past_at(s: &[u8], at: usize) -> usize
     n
 }
 
+// How many bytes from the front start neither a comment nor a string.
+fn plain_run(s: &[u8]) -> usize
+    ensures { λ r. ⌜ Runs plain-byte (now (s .entry)) r ⌝ }
+{
+    let mut i = 0;
+    while i < s.len() {
+        if s[i] == b'/' {
+            return i;
+        }
+        if s[i] == b'"' {
+            return i;
+        }
+        i += 1;
+    }
+    i
+}
+
 // The number of comments.
 pub fn count_comments(s: &[u8]) -> usize
     ensures { λ r. ⌜ r ≡ comment-count (now (s .entry)) ⌝ }
@@ -77,7 +96,11 @@ pub fn count_comments(s: &[u8]) -> usize
     let mut k: usize = 0;
     let mut i: usize = 0;
     let close = last_close(s);
-    while i < s.len() {
+    loop {
+        i += plain_run(&s[i..]);
+        if s.len() <= i {
+            return k;
+        }
         let n = comment_at(s, i, close);
         if n == 0 {
             i += past_at(s, i);
@@ -86,7 +109,6 @@ pub fn count_comments(s: &[u8]) -> usize
             i += n;
         }
     }
-    k
 }
 
 // A comment's kind: block 1, line 2.
@@ -127,7 +149,11 @@ pub fn write_comments(s: &[u8], t: &mut [u64]) -> usize
         column: 0,
     };
     let close = last_close(s);
-    while i < s.len() {
+    loop {
+        i += plain_run(&s[i..]);
+        if s.len() <= i {
+            return k;
+        }
         let n = comment_at(s, i, close);
         if n == 0 {
             i += past_at(s, i);
@@ -139,5 +165,4 @@ pub fn write_comments(s: &[u8], t: &mut [u64]) -> usize
             i += n;
         }
     }
-    k
 }

@@ -51,7 +51,7 @@ one-of Digit = digit
 one-of Hexdigit = hexdigit
 
 -- ---- how many bytes from the front are of a class
-abbrev sucIf : Bool → ℕ → ℕ
+abbrev pub sucIf : Bool → ℕ → ℕ
 sucIf true n = suc n
 sucIf false n = 0
 

@@ -1,6 +1,6 @@
 -- `comment_at` meets its contract.
 use borrow.Author.Needs.{needs}
-use Rattle.comments.proofs.Found.{comment-none, comment-line, comment-is}
+use Rattle.comments.proofs.Findings.{comment-none, comment-line, comment-is}
 use Rattle.comments.proofs.comment_at.Statement.{statement}
 use Rattle.comments.proofs.comment_at.Tie as tie
 
@@ -8,7 +8,9 @@ returns : tie.Need-returns
 returns c = comment-none _ _ (c .before .before .before .pre .0) (c .if1 .taken)
 
 returns-2 : tie.Need-returns-2
-returns-2 c = comment-line _ _ (c .before .before .before .before .before .before .before .pre .0) _ _ _ (c .before .before .before .before .before .before .before .pre .1) (c .before .before .before .if2 .taken) (c .before .line-comment .ensures) (c .taken .ensures)
+returns-2 c =
+    let a = c .before .before .before .before .before .before .before in
+    comment-line _ _ (a .pre .0) _ _ _ (a .pre .1) (c .before .before .before .if2 .taken) (c .before .line-comment .ensures) (c .taken .ensures)
 
 returns-3 : tie.Need-returns-3
 returns-3 c = comment-is _ _ (c .before .before .before .before .before .before .before .pre .0) _ _ (c .before .comment .ensures) (c .taken2 .ensures)

@@ -1,6 +1,6 @@
 -- `kind_at` meets its contract.
 use borrow.Author.Needs.{needs}
-use Rattle.comments.proofs.Found.{kind-block, kind-line}
+use Rattle.comments.proofs.Findings.{kind-block, kind-line}
 use Rattle.comments.proofs.kind_at.Statement.{statement}
 use Rattle.comments.proofs.kind_at.Tie as tie
 

@@ -1,6 +1,6 @@
 -- `last_close` meets its contract: nothing from i - 1 on closes a comment.
 use borrow.Author.Needs.{needs}
-use Rattle.comments.proofs.Found.{Back, back-start, back-more, back-found, back-end}
+use Rattle.comments.proofs.Findings.{Back, back-start, back-more, back-found, back-end}
 use Rattle.comments.proofs.last_close.Statement.{statement}
 use Rattle.comments.proofs.last_close.Tie as tie
 
@@ -17,7 +17,9 @@ returns : tie.Need-returns Inv-loop μ-loop
 returns c = back-found (c .before .before .before .before .before .loop .inv) (c .before .before .before .before .loop-test .taken)
 
 loop-again : tie.Need-loop-again Inv-loop μ-loop
-loop-again c = back-more (c .before .before .before .before .before .loop .inv) (c .before .before .before .before .loop-test .taken) (c .before .closes .ensures) (c .if1 .left)
+loop-again c =
+    let a = c .before .before .before .before in
+    back-more (a .before .loop .inv) (a .loop-test .taken) (c .before .closes .ensures) (c .if1 .left)
 
 returns-2 : tie.Need-returns-2 Inv-loop μ-loop
 returns-2 c = back-end (c .before .loop .inv) (c .loop-test .left)

@@ -7,6 +7,7 @@ use mathlib.Core.List.{List, [], _∷_}
 use mathlib.Core.Bool.{Bool, true, false}
 use lib.ListN.{length, getD, take, drop, length-drop}
 use lib.Seq.{drop-drop, drop-cons}
+use lib.Dec.{eqb}
 use borrow.Author.Tests.{ne-eqb, eqb-true, eqb-false}
 use Rattle.meaning.specs.declared.Match.{Match}
 use Rattle.meaning.specs.declared.Match.the-variants.{Missed, Took}
@@ -19,8 +20,9 @@ use Rattle.grammar.specs.Picks.{pick-false}
 use Rattle.grammar.specs.Hits.{taken-missed, hit-behind, hit-lit, taken-alt}
 use Rattle.grammar.specs.Fits.{within-taken}
 use Rattle.grammar.specs.Steps.{at as part}
-use Rattle.comments.specs.LexLaws.{no-comment, no-string}
-use lib.Dec.{eqb}
+use Rattle.lexis.specs.Skips.{no-comment}
+use Rattle.text.specs.ChoiceLaws.{both-false, both-yes}
+use Rattle.comments.specs.LexLaws.{no-string, plain-byte}
 use Rattle.comments.specs.Steps.{Closed, Comment, Past, stride, kind-of}
 
 -- ---- what the code finds
@@ -52,20 +54,38 @@ line-only t h = taken-alt (bytewise block-comment) (bytewise line-comment) t ∙
 module _ (s : List ℕ) (i : ℕ) (l : i < length s) where
   pub comment-none : (getD s i 0 ≡ 47 → ⊥) → Comment s i 0
   comment-none h =
-      record { is = rw (at-byte s i l) (sym (taken-missed (run (bytewise COMMENT) (getD s i 0 ∷ drop (i + 1) s)) (no-comment (getD s i 0) (drop (i + 1) s) (ne-eqb 47 (getD s i 0) (λ e. h (sym e)))))); fits = omega arith }
+      record {
+        is =
+            rw (at-byte s i l)
+            (sym (taken-missed (run (bytewise COMMENT) (getD s i 0 ∷ drop (i + 1) s))
+            (no-comment (getD s i 0) (drop (i + 1) s) (ne-eqb 47 (getD s i 0) (λ e. h (sym e))))));
+        fits = omega arith;
+      }
 
   -- nothing closes a block comment here
   pub comment-line : (e : ℕ) (m : Match) (n : ℕ) → Closed s e → e ≤ i → Reads line-comment (take (length s - i) (drop i s)) m → n ≡ taken m → Comment s i n
   comment-line e m n c q h d =
       let k = part i s h in
-      record { is = d ∙ ap taken (k .is) ∙ sym (line-only (drop i s) (unclosed s i e c q)); fits = omega (arith, within-taken m (drop i s) (k .fits), length-drop i s) }
+      record {
+        is = d ∙ ap taken (k .is) ∙ sym (line-only (drop i s) (unclosed s i e c q));
+        fits = omega (arith, within-taken m (drop i s) (k .fits), length-drop i s);
+      }
 
   pub comment-is : (m : Match) (n : ℕ) → Reads COMMENT (take (length s - i) (drop i s)) m → n ≡ taken m → Comment s i n
   comment-is m n h e = let k = part i s h in record { is = e ∙ ap taken (k .is); fits = omega (arith, within-taken m (drop i s) (k .fits), length-drop i s) }
 
   pub past-other : (getD s i 0 ≡ 34 → ⊥) → Past s i 1
   past-other h =
-      record { is = rw (at-byte s i l, taken-missed (run (bytewise string) (getD s i 0 ∷ drop (i + 1) s)) (no-string (getD s i 0) (drop (i + 1) s) (ne-eqb 34 (getD s i 0) (λ e. h (sym e))))); fits = omega arith; on = omega arith }
+      record {
+        is =
+            rw (
+              at-byte s i l,
+              taken-missed (run (bytewise string) (getD s i 0 ∷ drop (i + 1) s))
+                  (no-string (getD s i 0) (drop (i + 1) s) (ne-eqb 34 (getD s i 0) (λ e. h (sym e)))),
+            );
+        fits = omega arith;
+        on = omega arith;
+      }
 
   pub past-open : (m : Match) (n : ℕ) → Reads string (take (length s - i) (drop i s)) m → n ≡ taken m → n ≡ 0 → Past s i 1
   past-open m n h e z =
@@ -80,6 +100,16 @@ module _ (s : List ℕ) (i : ℕ) (l : i < length s) where
       whole : (j : ℕ) → (j ≡ 0 → ⊥) → j ≡ stride j
       whole zero q = absurd (q refl)
       whole (suc j) q = refl
+
+-- ---- a byte that starts neither
+pub plain-slash : (x : ℕ) → x ≡ 47 → plain-byte x ≡ false
+plain-slash x e = rw e
+
+pub plain-quote : (x : ℕ) → x ≡ 34 → plain-byte x ≡ false
+plain-quote x e = rw e
+
+pub plain-other : (x : ℕ) → (x ≡ 47 → ⊥) → (x ≡ 34 → ⊥) → plain-byte x ≡ true
+plain-other x a b = rw (ne-eqb 47 x (λ e. a (sym e)), ne-eqb 34 x (λ e. b (sym e)))
 
 -- ---- a comment's kind
 module _ (s : List ℕ) (i : ℕ) (m : Match) (h : Reads (lit (bytes "/*")) (take (length s - i) (drop i s)) m) where
@@ -110,26 +140,20 @@ pub record Back (s : List ℕ) (i : ℕ) : Type 0 where
 
 short : (t : List ℕ) → length t ≤ 1 → prefixb (bytes "*/") t ≡ false
 short [] h = refl
-short (x ∷ []) h = go (eqb 42 x)
-  where
-    go : (b : Bool) → both b false ≡ false
-    go true = refl
-    go false = refl
+short (x ∷ []) h = both-false (eqb 42 x)
 short (x ∷ (y ∷ t)) h = absurd (omega arith)
 
 two : (s : List ℕ) (j : ℕ) → j + 1 < length s → prefixb (bytes "*/") (drop j s) ≡ both (eqb 42 (getD s j 0)) (eqb 47 (getD s (j + 1) 0))
 two s j h =
-    let e : drop j s ≡ getD s j 0 ∷ (getD s (j + 1) 0 ∷ drop (j + 1 + 1) s) = at-byte s j (omega arith) ∙ ap (λ (u : List ℕ). getD s j 0 ∷ u) (at-byte s (j + 1) h) in
-    rw e (ap (both (eqb 42 (getD s j 0))) (both-true (eqb 47 (getD s (j + 1) 0))))
-  where
-    both-true : (b : Bool) → both b true ≡ b
-    both-true true = refl
-    both-true false = refl
+    let e : drop j s ≡ getD s j 0 ∷ (getD s (j + 1) 0 ∷ drop (j + 1 + 1) s)
+    = at-byte s j (omega arith) ∙ ap (λ (u : List ℕ). getD s j 0 ∷ u) (at-byte s (j + 1) h) in
+    rw e (ap (both (eqb 42 (getD s j 0))) (both-yes (eqb 47 (getD s (j + 1) 0))))
 
 pub back-start : (s : List ℕ) → Back s (length s)
 back-start s = record { within = omega arith; none = λ j h. short (drop j s) (omega (arith, length-drop j s)) }
 
-pub back-more : {s : List ℕ} {i : ℕ} {b : Bool} → Back s i → 1 < i → b ≡ both (eqb 42 (getD s (i - 2) 0)) (eqb 47 (getD s (i - 1) 0)) → b ≡ false → Back s (i - 1)
+pub back-more : {s : List ℕ} {i : ℕ} {b : Bool} → Back s i → 1 < i → b ≡ both (eqb 42 (getD s (i - 2) 0)) (eqb 47 (getD s (i - 1) 0)) → b ≡ false
+    → Back s (i - 1)
 back-more {s} {i} {b} w l e q = record { within = omega (arith, w .within); none = λ j h. go j h (eqb (j + 2) i) refl }
   where
     go : (j : ℕ) → i - 1 ≤ j + 1 → (d : Bool) → eqb (j + 2) i ≡ d → prefixb (bytes "*/") (drop j s) ≡ false
