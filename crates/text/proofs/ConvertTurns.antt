@@ -49,7 +49,7 @@ grows base d acc b h =
     let e : acc * 1 ≡ acc = mul-one acc in
     omega arith
 
-pub beyond-all : (base : ℕ) (bs : List ℕ) (m n : ℕ) → 1 ≤ base → 2 ^ 64 ≤ m → 2 ^ 64 ≤ n → digits base bs m ≡ digits base bs n
+beyond-all : (base : ℕ) (bs : List ℕ) (m n : ℕ) → 1 ≤ base → 2 ^ 64 ≤ m → 2 ^ 64 ≤ n → digits base bs m ≡ digits base bs n
 unfolding digits
 beyond-all base [] m n b h k = simp (le-ltb _ _ h, le-ltb _ _ k)
 beyond-all base (x ∷ bs) m n b h k =

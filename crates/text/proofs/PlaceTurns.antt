@@ -1,12 +1,15 @@
--- What the turns of a move show.
-use Prim.Native.Nat.{ℕ, _+_, _≤_, _<_}
-use mathlib.Core.Path.{_≡_, ap, sym}
+-- What the turns of a move show, and those of the search for the end of a line.
+use Prim.Native.Nat.{ℕ, _+_, _-_, _≤_, _<_}
+use mathlib.Core.Path.{_≡_, refl, ap, subst, sym}
 use mathlib.Core.List.{List}
+use mathlib.Core.Bool.{Bool, true, false}
 use native.Mathlib.Omega.{arith}
+use borrow.Author.Tests.{eqb-true, eqb-false}
+use lib.Dec.{eqb}
 use lib.ListN.{length, getD}
 use Rattle.meaning.specs.declared.SourceLocation.{SourceLocation}
 use Rattle.meaning.specs.Places.{at, placeAt}
-use Rattle.text.specs.PlaceLaws.{step-lf, step-other, line-below, column-below}
+use Rattle.text.specs.PlaceLaws.{step-lf, step-flat, LineEnd, line-below, column-below}
 
 -- ---- a place on its way to the goal
 pub record Moved (s : List ℕ) (goal i l c : ℕ) : Type 0 where
@@ -30,27 +33,53 @@ move-starts s goal p e h k =
       is = sym e;
     }
 
--- one byte on, with the line and the column that the code has then
-module _ (s : List ℕ) (goal i l c l' c' : ℕ) (m : Moved s goal i l c) (h : i < goal) where
-  pub move-lf : getD s i 0 ≡ 10 → l' ≡ l + 1 → c' ≡ 0 → Moved s goal (i + 1) l' c'
-  move-lf e a b =
+-- from the place at i to the end of its line
+module _ {s : List ℕ} {goal i l c j : ℕ} (m : Moved s goal i l c) (e : LineEnd s i goal j) where
+  pub line-width : c + (j - i) ≤ goal
+  line-width = omega (arith, m .column, m .upto, e .from, e .upto)
+
+  at-end : placeAt s j ≡ at j l (c + (j - i))
+  at-end =
+      let a : i + (j - i) ≡ j = omega (arith, e .from) in
+      subst (λ (k : ℕ). placeAt s k ≡ at k l (c + (j - i))) a
+      (step-flat s i l c (j - i) (omega (arith, m .inside, e .upto, e .from)) (λ k g h. e .flat k g (omega (arith, e .from))) (m .is))
+
+  pub move-line : (j ≡ goal → ⊥) → Moved s goal (j + 1) (l + 1) 0
+  move-line h =
+      let n : j < goal = omega (arith, e .upto) in
       record {
         upto = omega arith;
         inside = m .inside;
-        line = omega arith;
+        line = omega (arith, m .line, e .from);
         column = omega arith;
-        is = rw (a, b) (step-lf s i l c (omega arith) e (m .is));
+        is = step-lf s j l (c + (j - i)) (omega (arith, m .inside)) (e .stop n) at-end;
       }
 
-  pub move-other : (getD s i 0 ≡ 10 → ⊥) → l' ≡ l → c' ≡ c + 1 → Moved s goal (i + 1) l' c'
-  move-other e a b =
-      record {
-        upto = omega arith;
-        inside = m .inside;
-        line = omega arith;
-        column = omega arith;
-        is = rw (a, b) (step-other s i l c (omega arith) e (m .is));
-      }
+  pub move-ends : j ≡ goal → at goal l (c + (j - i)) ≡ placeAt s goal
+  move-ends h = sym (subst (λ (k : ℕ). placeAt s k ≡ at k l (c + (j - i))) h at-end)
 
-pub move-ends : (s : List ℕ) (goal i l c : ℕ) → Moved s goal i l c → goal ≤ i → at i l c ≡ placeAt s goal
-move-ends s goal i l c m h = let e : goal ≡ i = omega arith in rw e (sym (m .is))
+-- ---- the search for the end of a line: none so far, up to i
+pub record Flat (s : List ℕ) (from goal i : ℕ) : Type 0 where
+  pub start : from ≤ i
+  pub upto : i ≤ goal
+  pub flat : (j : ℕ) → from ≤ j → j < i → getD s j 0 ≡ 10 → ⊥
+
+pub flat-starts : (s : List ℕ) (from goal : ℕ) → from ≤ goal → Flat s from goal from
+flat-starts s from goal h = record { start = omega arith; upto = h; flat = λ j g k. absurd (omega arith) }
+
+module _ {s : List ℕ} {from goal i : ℕ} (f : Flat s from goal i) where
+  pub flat-more : i < goal → (getD s i 0 ≡ 10 → ⊥) → Flat s from goal (i + 1)
+  flat-more h n = record { start = omega (arith, f .start); upto = omega arith; flat = λ j g k. by j g k (eqb j i) refl }
+    where
+      by : (j : ℕ) → from ≤ j → j < i + 1 → (b : Bool) → eqb j i ≡ b → getD s j 0 ≡ 10 → ⊥
+      by j g k true q = let e : j ≡ i = eqb-true j i q in rw e n
+      by j g k false q = let e : j ≡ i → ⊥ = eqb-false j i q in f .flat j g (omega arith)
+
+  pub flat-found : getD s i 0 ≡ 10 → LineEnd s from goal i
+  flat-found e = record { from = f .start; upto = f .upto; flat = f .flat; stop = λ h. e }
+
+  pub flat-none : goal ≤ i → LineEnd s from goal goal
+  flat-none h =
+      let e : i ≡ goal = omega (arith, f .upto) in
+      subst (λ (k : ℕ). LineEnd s from goal k) e
+      (record { from = f .start; upto = f .upto; flat = f .flat; stop = λ k. absurd (omega arith) })

@@ -34,10 +34,10 @@ module _ (r : Octet) (rs : List Octet) (s : List ℕ) (j : ℕ) (g : Bool) (e : 
   first-of [] = refl
   first-of (x ∷ t) = rw (both-yes (holds r x))
 
-  pub octet-missed : g ≡ false → has (r ∷ rs) (drop j s) ≡ false
+  octet-missed : g ≡ false → has (r ∷ rs) (drop j s) ≡ false
   octet-missed k = first-of (drop j s) ∙ rw (sym e ∙ k)
 
-  pub octet-took : g ≡ true → has (r ∷ rs) (drop j s) ≡ has rs (drop (j + 1) s)
+  octet-took : g ≡ true → has (r ∷ rs) (drop j s) ≡ has rs (drop (j + 1) s)
   octet-took k = first-of (drop j s) ∙ rw (sym e ∙ k, drop-drop 1 j s)
 
 -- ---- the tails that are left after k of n, from i + 2 on; m is the length of the whole

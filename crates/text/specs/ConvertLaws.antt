@@ -1,65 +1,17 @@
--- Laws of the converter: a value is below 2 ^ 64, and what each kind of text converts to.
-use Prim.Native.Nat.{ℕ, _+_, _-_, _*_, _^_, _≤_, _<_}
+-- Laws of the converter: what each kind of text converts to, and which texts have reason 1.
+use Prim.Native.Nat.{ℕ, _+_, _*_, _^_, _≤_, _<_}
 use mathlib.Core.Path.{_≡_, refl}
 use mathlib.Core.List.{List, [], _∷_}
 use mathlib.Core.Bool.{Bool, true, false}
 use mathlib.Core.Logic.{_⊎_, inl, inr}
 use native.Mathlib.Omega.{arith}
-use borrow.Author.Tests.{ne-eqb, lt-leb, ltb-true, eqb-true}
+use borrow.Author.Tests.{ne-eqb, lt-leb, eqb-true}
 use lib.Dec.{ltb, leb, eqb}
 use Rattle.meaning.specs.declared.Converted.{Converted}
 use Rattle.meaning.specs.declared.Converted.the-variants.{Value, Empty, BadDigit, TooLarge}
 use Rattle.meaning.specs.Choice.{pick, both}
-use Rattle.meaning.specs.Convert.{digitOf, digits, some, radix, convert, reasonOf, valueOf}
+use Rattle.meaning.specs.Convert.{digitOf, digits, some, radix, convert, reasonOf}
 use Rattle.text.specs.ChoiceLaws.{both-is, both-false}
-
--- ---- a value is below 2 ^ 64
-unfoldable pub Small : Converted → Type 0
-Small c = valueOf c < 2 ^ 64
-
-small-pick : (b : Bool) (c d : Converted) → Small c → Small d → Small (pick b c d)
-small-pick true c d h g = h
-small-pick false c d h g = g
-
-small-end : (b : Bool) (acc : ℕ) → (b ≡ true → acc < 2 ^ 64) → Small (pick b (Value acc) TooLarge)
-unfolding Small
-small-end true acc h = h refl
-small-end false acc h = omega arith
-
-small-bad : Small BadDigit
-unfolding Small
-small-bad = omega arith
-
-small-empty : Small Empty
-unfolding Small
-small-empty = omega arith
-
-digits-small : (base : ℕ) (bs : List ℕ) (acc : ℕ) → Small (digits base bs acc)
-unfolding digits
-digits-small base [] acc = small-end (ltb acc (2 ^ 64)) acc (ltb-true acc (2 ^ 64))
-digits-small base (b ∷ bs) acc =
-    small-pick (leb base (digitOf b)) BadDigit (digits base bs (acc * base + digitOf b)) small-bad (digits-small base bs (acc * base + digitOf b))
-
-some-small : (base : ℕ) (bs : List ℕ) → Small (some base bs)
-some-small base [] = small-bad
-some-small base (b ∷ bs) = digits-small base (b ∷ bs) 0
-
-radix-small : (base : ℕ) (bs : List ℕ) → Small (radix base bs)
-radix-small base [] = small-empty
-radix-small base (b ∷ bs) = small-pick (eqb b 43) (some base bs) (digits base (b ∷ bs) 0) (some-small base bs) (digits-small base (b ∷ bs) 0)
-
-convert-small : (s : List ℕ) → Small (convert s)
-convert-small [] = radix-small 10 []
-convert-small (a ∷ []) = radix-small 10 (a ∷ [])
-convert-small (a ∷ b ∷ s) =
-    small-pick (both (eqb a 48) (eqb b 120)) (radix 16 s) (radix 10 (a ∷ b ∷ s)) (radix-small 16 s) (radix-small 10 (a ∷ b ∷ s))
-
-pub value-small : (s : List ℕ) → valueOf (convert s) < 2 ^ 64
-unfolding Small
-value-small s = convert-small s
-
-pub value-below : (s : List ℕ) (v : ℕ) → convert s ≡ Value v → v < 2 ^ 64
-value-below s v e = rw e at (value-small s)
 
 -- ---- digits only: the number that they say, if it fits
 unfoldable pub Digits : ℕ → List ℕ → Type 0
@@ -73,7 +25,7 @@ number base (b ∷ bs) acc = number base bs (acc * base + digitOf b)
 abbrev pub settled : ℕ → Converted
 settled n = pick (ltb n (2 ^ 64)) (Value n) TooLarge
 
-pub digits-good : (base : ℕ) (bs : List ℕ) (acc : ℕ) → Digits base bs → digits base bs acc ≡ settled (number base bs acc)
+digits-good : (base : ℕ) (bs : List ℕ) (acc : ℕ) → Digits base bs → digits base bs acc ≡ settled (number base bs acc)
 unfolding digits Digits number
 digits-good base [] acc h = refl
 digits-good base (b ∷ bs) acc h = rw (lt-leb base (digitOf b) (h .0)) (digits-good base bs (acc * base + digitOf b) (h .1))

@@ -3,6 +3,7 @@ use Prim.Native.Nat.{ℕ, zero, suc, _+_, _-_, _≤_, _<_}
 use mathlib.Core.Path.{_≡_, refl, ap, _∙_}
 use mathlib.Core.List.{List, [], _∷_, _++_}
 use mathlib.Core.Bool.{Bool, true, false}
+use native.Mathlib.Nat.{add-zero}
 use native.Mathlib.Numerals.{add-one}
 use native.Mathlib.Omega.{arith}
 use borrow.Author.Tests.{lt-ltb, le-ltb, eq-eqb, ne-eqb}
@@ -27,7 +28,7 @@ pub placeAt-start : (s : List ℕ) → placeAt s 0 ≡ at 0 0 0
 unfolding moved
 placeAt-start s = refl
 
-pub placeAt-step : (s : List ℕ) (i : ℕ) → i < length s → placeAt s (i + 1) ≡ over (getD s i 0) (placeAt s i)
+placeAt-step : (s : List ℕ) (i : ℕ) → i < length s → placeAt s (i + 1) ≡ over (getD s i 0) (placeAt s i)
 placeAt-step s i h = rw (add-one i, take-suc s i 0, moved-append, moved-one)
 
 pub step-lf : (s : List ℕ) (i l c : ℕ) → i < length s → getD s i 0 ≡ 10 → placeAt s i ≡ at i l c
@@ -37,6 +38,27 @@ step-lf s i l c h e q = placeAt-step s i h ∙ simp (eq-eqb _ _ e, q)
 pub step-other : (s : List ℕ) (i l c : ℕ) → i < length s → (getD s i 0 ≡ 10 → ⊥) → placeAt s i ≡ at i l c
     → placeAt s (i + 1) ≡ at (i + 1) l (c + 1)
 step-other s i l c h e q = placeAt-step s i h ∙ simp (ne-eqb _ _ e, q)
+
+-- over n bytes that are no LF
+pub step-flat : (s : List ℕ) (i l c n : ℕ) → i + n ≤ length s → ((j : ℕ) → i ≤ j → j < i + n → getD s j 0 ≡ 10 → ⊥) → placeAt s i ≡ at i l c
+    → placeAt s (i + n) ≡ at (i + n) l (c + n)
+step-flat s i l c zero h e q =
+    let a : i + 0 ≡ i = add-zero i in
+    let b : c + 0 ≡ c = add-zero c in
+    rw (a, b) q
+step-flat s i l c (suc n) h e q =
+    let a : i + suc n ≡ i + n + 1 = omega arith in
+    let b : c + suc n ≡ c + n + 1 = omega arith in
+    rw (a, b)
+    (step-other s (i + n) l (c + n) (omega arith) (e (i + n) (omega arith) (omega arith))
+    (step-flat s i l c n (omega arith) (λ j g k. e j g (omega arith)) q))
+
+-- the first LF from i on, before the goal; the goal, if there is none
+pub record LineEnd (s : List ℕ) (i goal r : ℕ) : Type 0 where
+  pub from : i ≤ r
+  pub upto : r ≤ goal
+  pub flat : (j : ℕ) → i ≤ j → j < r → getD s j 0 ≡ 10 → ⊥
+  pub stop : r < goal → getD s r 0 ≡ 10
 
 -- ---- bounds: q is n bytes past p
 pub record Near (n : ℕ) (q p : SourceLocation) : Type 0 where

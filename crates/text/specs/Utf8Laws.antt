@@ -18,13 +18,13 @@ abbrev pub octets : ℕ → ℕ → ℕ → List Octet
 octets least most n = (least to most) ∷ replicate n tail
 
 -- ---- one octet
-pub holds-in : (r : Octet) (x : ℕ) → r .least ≤ x → x ≤ r .most → holds r x ≡ true
+holds-in : (r : Octet) (x : ℕ) → r .least ≤ x → x ≤ r .most → holds r x ≡ true
 holds-in r x l m = simp (le-leb _ _ l, le-leb _ _ m)
 
 pub holds-under : (r : Octet) (x : ℕ) → x < r .least → holds r x ≡ false
 holds-under r x h = simp (lt-leb _ _ h)
 
-pub holds-over : (r : Octet) (x : ℕ) → r .most < x → holds r x ≡ false
+holds-over : (r : Octet) (x : ℕ) → r .most < x → holds r x ≡ false
 holds-over r x h = rw (lt-leb _ _ h) (both-false (leb (r .least) x))
 
 -- ---- the first byte settles the form: the forms stand in the order of their first octets
@@ -117,7 +117,7 @@ pick-fits : (b : Bool) (m n l : ℕ) → (b ≡ true → m ≤ l) → n ≤ l �
 pick-fits true m n l f g = f refl
 pick-fits false m n l f g = g
 
-pub formed-fits : (fs : List (List Octet)) (t : List ℕ) → formed fs t ≤ length t
+formed-fits : (fs : List (List Octet)) (t : List ℕ) → formed fs t ≤ length t
 formed-fits [] t = omega arith
 formed-fits (f ∷ fs) t = pick-fits (has f t) (length f) (formed fs t) (length t) (has-fits f t) (formed-fits fs t)
 
@@ -129,7 +129,7 @@ pub character-none : character [] ≡ 0
 unfolding character
 character-none = refl
 
-pub character-ascii : (x : ℕ) (t : List ℕ) → x < 128 → character (x ∷ t) ≡ 1
+character-ascii : (x : ℕ) (t : List ℕ) → x < 128 → character (x ∷ t) ≡ 1
 unfolding character
 character-ascii x t h = begins (record { least = 0; most = 127 }) [] (drop 1 forms) x t refl (omega arith) (omega arith)
 

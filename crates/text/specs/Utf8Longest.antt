@@ -5,13 +5,13 @@ use mathlib.Core.List.{List, [], _∷_}
 use mathlib.Core.Bool.{Bool, true, false}
 use native.Mathlib.Nat.{zero-add, suc-add}
 use native.Mathlib.Omega.{arith}
-use borrow.Author.Tests.{leb-true, leb-false}
+use borrow.Author.Tests.{leb-true}
 use lib.ListN.{length, getD, take, drop, length-drop}
 use lib.Dec.{leb}
 use Rattle.meaning.specs.Choice.{pick, both, either}
 use Rattle.meaning.specs.Utf8.{Octet, holds, has, formed, forms, character, valid}
 use Rattle.text.specs.ChoiceLaws.{never, both-is}
-use Rattle.text.specs.Utf8Laws.{ascends, head-of, under, past, character-fits, character-none, valid-step, valid-stop}
+use Rattle.text.specs.Utf8Laws.{ascends, head-of, under, character-fits, character-none, valid-step, valid-stop}
 
 -- ---- forms in a part of a text
 has-take : (f : List Octet) (t : List ℕ) (n : ℕ) → length f ≤ n → has f (take n t) ≡ has f t
@@ -130,15 +130,6 @@ longest-for (suc k) t n h v =
 pub longest : (t : List ℕ) (n : ℕ) → valid (take n t) ≡ n → n ≤ valid t
 longest t n v = longest-for (length t) t n (omega arith) v
 
--- a valid text is a character and a valid text
-module _ (t : List ℕ) (v : valid t ≡ length t) (h : 0 < length t) where
-  next-by : (n : ℕ) → character t ≡ n → (0 < n) × (valid (drop n t) ≡ length (drop n t))
-  next-by zero e = absurd (omega (arith, valid-stop t e))
-  next-by (suc c) e = (omega arith, omega (arith, valid-step t c e, length-drop (suc c) t, character-fits t))
-
-  pub valid-next : (0 < character t) × (valid (drop (character t) t) ≡ length (drop (character t) t))
-  valid-next = next-by (character t) refl
-
 -- ---- a wide character has no byte of ASCII
 abbrev high : List Octet → Bool
 high [] = true
@@ -177,26 +168,3 @@ formed-high (f ∷ fs) t a j l h =
 pub wide-byte : (t : List ℕ) (j : ℕ) → 2 ≤ character t → j < character t → 128 ≤ getD t j 0
 unfolding character
 wide-byte t j l h = formed-high forms t refl j l h
-
--- a character of one byte is ASCII
-abbrev longs : List (List Octet) → Bool
-longs [] = true
-longs (f ∷ fs) = both (leb 2 (length f)) (longs fs)
-
-formed-long : (fs : List (List Octet)) (t : List ℕ) → longs fs ≡ true → formed fs t ≡ 1 → ⊥
-formed-long [] t a e = omega arith
-formed-long (f ∷ fs) t a e =
-    let p = both-is (leb 2 (length f)) (longs fs) a in
-    one (has f t) (length f) (formed fs t) (leb-true 2 (length f) (p .0)) (formed-long fs t (p .1)) e
-  where
-    one : (b : Bool) (m n : ℕ) → 2 ≤ m → (n ≡ 1 → ⊥) → pick b m n ≡ 1 → ⊥
-    one true m n h k e = omega arith
-    one false m n h k e = k e
-
-pub narrow-byte : (x : ℕ) (t : List ℕ) → character (x ∷ t) ≡ 1 → x < 128
-unfolding character
-narrow-byte x t e = by (leb 128 x) refl
-  where
-    by : (b : Bool) → leb 128 x ≡ b → x < 128
-    by true q = absurd (formed-long (drop 1 forms) (x ∷ t) refl (sym (past 1 forms 0 x t refl (leb-true 128 x q)) ∙ e))
-    by false q = leb-false 128 x q

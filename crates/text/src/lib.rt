@@ -9,6 +9,7 @@ ghost use Rattle.meaning.specs.Utf8.{has, character, valid};
 ghost use Rattle.meaning.specs.Places.{placeAt};
 ghost use Rattle.meaning.specs.Convert.{digitOf, digits, radix, convert, reasonOf, valueOf};
 ghost use Rattle.text.specs.Utf8Laws.{octets};
+ghost use Rattle.text.specs.PlaceLaws.{LineEnd};
 
 // Whether a byte stands at i, from least to most.
 fn octet(s: &[u8], i: usize, least: u8, most: u8) -> bool
@@ -80,7 +81,7 @@ fn wide_at(s: &[u8], i: usize, b: u8) -> usize
 }
 
 // How long the character at i is; 0, if there is none.
-pub fn character_at(s: &[u8], i: usize) -> usize
+fn character_at(s: &[u8], i: usize) -> usize
     ensures { λ r. ⌜ r ≡ character (drop i (now (s .entry))) ⌝ }
 {
     if s.len() <= i {
@@ -108,6 +109,21 @@ pub fn valid_prefix(s: &[u8]) -> usize
     i
 }
 
+// The first LF from `from` on and before `to`; `to`, if there is none.
+fn line_end(s: &[u8], from: usize, to: usize) -> usize
+    requires { ⌜ (from ≤ to) × (to ≤ length (now s)) ⌝ }
+    ensures { λ r. ⌜ LineEnd (now (s .entry)) from to r ⌝ }
+{
+    let mut i = from;
+    while i < to {
+        if s[i] == 10 {
+            return i;
+        }
+        i += 1;
+    }
+    to
+}
+
 // The place p, moved forward to the offset `to`: a line more for each LF on the way.
 pub fn move_to(s: &[u8], p: SourceLocation, to: usize) -> SourceLocation
     requires { ⌜ (p ≡ placeAt (now s) (p .offset)) × ((p .offset ≤ to) × (to ≤ length (now s))) ⌝ }
@@ -116,19 +132,18 @@ pub fn move_to(s: &[u8], p: SourceLocation, to: usize) -> SourceLocation
     let mut line: usize = p.line;
     let mut column: usize = p.column;
     let mut i: usize = p.offset;
-    while i < to {
-        if s[i] == 10 {
-            line += 1;
-            column = 0;
-        } else {
-            column += 1;
+    loop {
+        let j = line_end(s, i, to);
+        if j == to {
+            return SourceLocation {
+                offset: to,
+                line,
+                column: column + (j - i),
+            };
         }
-        i += 1;
-    }
-    SourceLocation {
-        offset: i,
-        line,
-        column,
+        line += 1;
+        column = 0;
+        i = j + 1;
     }
 }
 

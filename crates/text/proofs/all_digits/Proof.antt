@@ -19,19 +19,34 @@ loop-holds : tie.Need-loop-holds Inv-loop μ-loop
 loop-holds c = (search needs, refl)
 
 returns : tie.Need-returns Inv-loop μ-loop
-returns c = sym ((c .before .before .before .before .loop .inv .1) ∙ turn-bad _ _ (c .before .before .before .before .loop .i) _ _ (c .before .before .before .loop-test .taken) (c .before .to-digit .ensures) (c .if1 .taken))
+returns c =
+    let a = c .before .before .before in
+    sym ((a .before .loop .inv .1) ∙ turn-bad _ _ (a .before .loop .i) _ _ (a .loop-test .taken) (c .before .to-digit .ensures) (c .if1 .taken))
 
 returns-2 : tie.Need-returns-2 Inv-loop μ-loop
-returns-2 c = (c .beyond .ensures) ∙ sym ((c .before .before .before .before .before .before .loop .inv .1) ∙ turn-over _ _ (c .before .before .before .before .before .before .loop .i) _ _ (c .before .before .before .before .before .loop-test .taken) (c .before .before .before .to-digit .ensures) (c .before .before .if1 .left) (c .before .before .before .before .before .before .before .before .pre .0) (c .before .before .before .before .before .before .before .before .pre .1) (c .before .if2 .taken))
+returns-2 c =
+    let a = c .before .before .before .before .before in
+    (c .beyond .ensures) ∙ sym ((a .before .loop .inv .1) ∙ turn-over _ _ (a .before .loop .i) _ _ (a .loop-test .taken)
+    (c .before .before .before .to-digit .ensures) (c .before .before .if1 .left) (a .before .before .before .pre .0)
+    (a .before .before .before .pre .1) (c .before .if2 .taken))
 
 mul-acc : tie.Need-mul-acc Inv-loop μ-loop
-mul-acc c = omega (arith, fits _ _ _ (c .before .before .before .before .before .before .before .pre .0) (c .before .before .before .before .before .before .before .pre .1) (c .before .if1 .left) (c .if2 .left))
+mul-acc c =
+    let a = c .before .before .before .before .before .before .before .pre in
+    omega (arith, fits _ _ _ (a .0) (a .1) (c .before .if1 .left) (c .if2 .left))
 
 add-acc : tie.Need-add-acc Inv-loop μ-loop
-add-acc c = omega (arith, fits _ _ _ (c .before .before .before .before .before .before .before .pre .0) (c .before .before .before .before .before .before .before .pre .1) (c .before .if1 .left) (c .if2 .left))
+add-acc c =
+    let a = c .before .before .before .before .before .before .before .pre in
+    omega (arith, fits _ _ _ (a .0) (a .1) (c .before .if1 .left) (c .if2 .left))
 
 loop-again : tie.Need-loop-again Inv-loop μ-loop
-loop-again c = (fits _ _ _ (c .before .before .before .before .before .before .before .pre .0) (c .before .before .before .before .before .before .before .pre .1) (c .before .if1 .left) (c .if2 .left), (c .before .before .before .before .before .loop .inv .1) ∙ turn-good _ _ (c .before .before .before .before .before .loop .i) _ _ (c .before .before .before .before .loop-test .taken) (c .before .before .to-digit .ensures) (c .before .if1 .left))
+loop-again c =
+    let a = c .before .before .before .before in (
+      fits _ _ _ (a .before .before .before .pre .0) (a .before .before .before .pre .1) (c .before .if1 .left) (c .if2 .left),
+      (a .before .loop .inv .1) ∙ turn-good _ _ (a .before .loop .i) _ _ (a .loop-test .taken) (c .before .before .to-digit .ensures)
+          (c .before .if1 .left),
+    )
 
 returns-3 : tie.Need-returns-3 Inv-loop μ-loop
 returns-3 c = sym ((c .before .loop .inv .1) ∙ digits-end _ _ (c .before .loop .i) _ (c .loop-test .left) (c .before .loop .inv .0))

@@ -18,10 +18,15 @@ loop-holds : tie.Need-loop-holds Inv-loop μ-loop
 loop-holds c = refl
 
 returns : tie.Need-returns Inv-loop μ-loop
-returns c = sym ((c .before .before .before .before .loop .inv) ∙ turn-bad _ _ (c .before .before .before .before .loop .i) _ _ (c .before .before .before .loop-test .taken) (c .before .to-digit .ensures) (c .if1 .taken))
+returns c =
+    let a = c .before .before .before in
+    sym ((a .before .loop .inv) ∙ turn-bad _ _ (a .before .loop .i) _ _ (a .loop-test .taken) (c .before .to-digit .ensures) (c .if1 .taken))
 
 loop-again : tie.Need-loop-again Inv-loop μ-loop
-loop-again c = (c .before .before .before .before .loop .inv) ∙ turn-beyond _ _ (c .before .before .before .before .loop .i) _ (c .before .before .before .loop-test .taken) (c .before .to-digit .ensures) (c .if1 .left) (c .before .before .before .before .before .before .pre)
+loop-again c =
+    let a = c .before .before .before in
+    (a .before .loop .inv) ∙ turn-beyond _ _ (a .before .loop .i) _ (a .loop-test .taken) (c .before .to-digit .ensures) (c .if1 .left)
+    (a .before .before .before .pre)
 
 returns-2 : tie.Need-returns-2 Inv-loop μ-loop
 returns-2 c = sym ((c .before .loop .inv) ∙ beyond-end _ _ (c .before .loop .i) (c .loop-test .left))

@@ -12,10 +12,15 @@ returns-2 : tie.Need-returns-2
 returns-2 c = (c .from-str-radix2 .ensures) ∙ prefix-first (c .before .before .before .before .before .args .s .now) (c .before .if2 .taken)
 
 returns-3 : tie.Need-returns-3
-returns-3 c = (c .from-str-radix3 .ensures) ∙ prefix-second (c .before .before .before .before .before .before .before .args .s .now) (c .before .before .before .if2 .left) (c .before .if3 .taken)
+returns-3 c =
+    let a = c .before .before .before in
+    (c .from-str-radix3 .ensures) ∙ prefix-second (a .before .before .before .before .args .s .now) (a .if2 .left) (c .before .if3 .taken)
 
 returns-4 : tie.Need-returns-4
-returns-4 c = (c .from-str-radix4 .ensures) ∙ prefix-both (c .before .before .before .before .before .before .before .args .s .now) (c .before .before .before .before .before .if1 .left) (c .before .before .before .if2 .left) (c .before .if3 .left)
+returns-4 c =
+    let a = c .before .before .before in
+    (c .from-str-radix4 .ensures) ∙ prefix-both (a .before .before .before .before .args .s .now) (a .before .before .if1 .left) (a .if2 .left)
+    (c .before .if3 .left)
 
 pub convert-spec : {M : Type 1} → statement M
 convert-spec =

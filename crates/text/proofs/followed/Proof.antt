@@ -19,19 +19,44 @@ abbrev μ-loop : tie.MeasureT-loop
 μ-loop s i n least most second k₀ k = n - k
 
 returns : tie.Need-returns Inv-loop μ-loop
-returns c = tails-short (c .before .before .before .args .s .now) (c .before .before .before .args .i) (c .before .before .before .args .n) _ _ _ _ (c .before .octet .ensures) (c .if1 .left)
+returns c =
+    let a = c .before .before .before .args in
+    tails-short (a .s .now) (a .i) (a .n) _ _ _ _ (c .before .octet .ensures) (c .if1 .left)
 
 loop-holds : tie.Need-loop-holds Inv-loop μ-loop
-loop-holds c = (search needs, (omega (arith, octet-inside _ _ (c .before .before .before .args .s .now) (c .before .before .before .args .i + 1) _ (c .before .octet .ensures) (c .if1 .taken)), tails-start (c .before .before .before .args .s .now) (c .before .before .before .args .i) (c .before .before .before .args .n) _ _ _ _ (c .before .octet .ensures) (c .if1 .taken)))
+loop-holds c =
+    let a = c .before .before .before .args in (
+      search needs,
+      (
+        omega (arith, octet-inside _ _ (a .s .now) (a .i + 1) _ (c .before .octet .ensures) (c .if1 .taken)),
+        tails-start (a .s .now)
+            (a .i) (a .n) _ _ _ _ (c .before .octet .ensures) (c .if1 .taken),
+      ),
+    )
 
 returns-2 : tie.Need-returns-2 Inv-loop μ-loop
-returns-2 c = sym ((c .before .before .before .loop .inv .1 .1) ∙ tails-missed (c .before .before .before .before .before .before .before .args .s .now) (c .before .before .before .before .before .before .before .args .i) (c .before .before .before .before .before .before .before .args .n) _ (c .before .before .before .loop .k) _ (c .before .before .loop-test .taken) (c .before .octet2 .ensures) (c .if2 .left))
+returns-2 c =
+    let a = c .before .before .before .before .before .before .before .args in
+    let b = c .before .before in
+    sym ((b .before .loop .inv .1 .1) ∙ tails-missed (a .s .now) (a .i) (a .n) _ (b .before .loop .k) _ (b .loop-test .taken)
+    (c .before .octet2 .ensures) (c .if2 .left))
 
 loop-again : tie.Need-loop-again Inv-loop μ-loop
-loop-again c = (search needs, (omega (arith, octet-inside _ _ (c .before .before .before .before .before .before .before .args .s .now) (c .before .before .before .before .before .before .before .args .i + 2 + c .before .before .before .loop .k) _ (c .before .octet2 .ensures) (c .if2 .taken)), (c .before .before .before .loop .inv .1 .1) ∙ tails-more (c .before .before .before .before .before .before .before .args .s .now) (c .before .before .before .before .before .before .before .args .i) (c .before .before .before .before .before .before .before .args .n) _ (c .before .before .before .loop .k) _ (c .before .before .loop-test .taken) (c .before .octet2 .ensures) (c .if2 .taken)))
+loop-again c =
+    let a = c .before .before .before .before .before .before .before .args in
+    let b = c .before .before .before .loop in (
+      search needs,
+      (
+        omega (arith, octet-inside _ _ (a .s .now) (a .i + 2 + b .k) _ (c .before .octet2 .ensures) (c .if2 .taken)),
+        (b .inv .1 .1)
+            ∙ tails-more (a .s .now) (a .i) (a .n) _ (b .k) _ (c .before .before .loop-test .taken) (c .before .octet2 .ensures) (c .if2 .taken),
+      ),
+    )
 
 returns-3 : tie.Need-returns-3 Inv-loop μ-loop
-returns-3 c = sym ((c .before .loop .inv .1 .1) ∙ tails-end (c .before .before .before .before .before .args .s .now) (c .before .before .before .before .before .args .i) (c .before .before .before .before .before .args .n) _ (c .before .loop .k) (c .loop-test .left))
+returns-3 c =
+    let a = c .before .before .before .before .before .args in
+    sym ((c .before .loop .inv .1 .1) ∙ tails-end (a .s .now) (a .i) (a .n) _ (c .before .loop .k) (c .loop-test .left))
 
 pub followed-spec : {M : Type 1} → statement M
 followed-spec =

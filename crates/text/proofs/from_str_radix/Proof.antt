@@ -9,13 +9,20 @@ returns : tie.Need-returns
 returns c = sign-empty (c .before .before .args .base) (c .before .before .args .s .now) (c .before .before .args .from) (c .if1 .taken)
 
 returns-2 : tie.Need-returns-2
-returns-2 c = (c .all-digits .ensures) ∙ sign-none (c .before .before .before .before .before .args .base) (c .before .before .before .before .before .args .s .now) (c .before .before .before .before .before .args .from) (c .before .before .before .if1 .left) (c .before .if2 .taken)
+returns-2 c =
+    let a = c .before .before .before .before .before .args in
+    (c .all-digits .ensures) ∙ sign-none (a .base) (a .s .now) (a .from) (c .before .before .before .if1 .left) (c .before .if2 .taken)
 
 returns-3 : tie.Need-returns-3
-returns-3 c = sign-alone (c .before .before .before .before .before .args .base) (c .before .before .before .before .before .args .s .now) (c .before .before .before .before .before .args .from) (c .before .before .before .if1 .left) (c .before .if2 .left) (c .if3 .taken)
+returns-3 c =
+    let a = c .before .before .before .before .before .args in
+    sign-alone (a .base) (a .s .now) (a .from) (c .before .before .before .if1 .left) (c .before .if2 .left) (c .if3 .taken)
 
 returns-4 : tie.Need-returns-4
-returns-4 c = (c .all-digits2 .ensures) ∙ sign-more (c .before .before .before .before .before .before .args .base) (c .before .before .before .before .before .before .args .s .now) (c .before .before .before .before .before .before .args .from) (c .before .before .before .before .if1 .left) (c .before .before .if2 .left) (c .before .if3 .left)
+returns-4 c =
+    let a = c .before .before .before .before .before .before .args in
+    (c .all-digits2 .ensures) ∙ sign-more (a .base) (a .s .now) (a .from) (c .before .before .before .before .if1 .left)
+    (c .before .before .if2 .left) (c .before .if3 .left)
 
 pub from-str-radix-spec : {M : Type 1} → statement M
 from-str-radix-spec =

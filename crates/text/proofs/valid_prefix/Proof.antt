@@ -22,10 +22,14 @@ returns : tie.Need-returns Inv-loop μ-loop
 returns c = valid-none _ (c .before .before .before .loop .i) _ (c .before .character-at .ensures) (c .if1 .taken) (c .before .before .before .loop .inv .1)
 
 add-i : tie.Need-add-i Inv-loop μ-loop
-add-i c = omega (arith, (valid-turn _ (c .before .before .before .loop .i) _ (c .before .character-at .ensures) (c .if1 .left) (c .before .before .before .loop .inv .1)) .0)
+add-i c =
+    let a = c .before .before .before .loop in
+    omega (arith, (valid-turn _ (a .i) _ (c .before .character-at .ensures) (c .if1 .left) (a .inv .1)) .0)
 
 loop-less : tie.Need-loop-less Inv-loop μ-loop
-loop-less c = omega (arith, (valid-turn _ (c .before .before .before .loop .i) _ (c .before .character-at .ensures) (c .if1 .left) (c .before .before .before .loop .inv .1)) .0)
+loop-less c =
+    let a = c .before .before .before .loop in
+    omega (arith, (valid-turn _ (a .i) _ (c .before .character-at .ensures) (c .if1 .left) (a .inv .1)) .0)
 
 loop-again : tie.Need-loop-again Inv-loop μ-loop
 loop-again c = valid-turn _ (c .before .before .before .loop .i) _ (c .before .character-at .ensures) (c .if1 .left) (c .before .before .before .loop .inv .1)

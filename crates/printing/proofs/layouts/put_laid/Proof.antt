@@ -9,4 +9,7 @@ returns c =
     then-wrote _ _ _ _ _ _ _ _ (then-wrote _ _ _ _ _ _ _ _ (c .before .before .before .before .before .before .before .before .before .before .put-line .ensures) (c .before .before .before .before .before .before .put-lines .ensures)) (c .before .before .put-lines2 .ensures)
 
 pub put-laid-spec : {M : Type 1} → statement M
-put-laid-spec = tie.close (tie.spec (λ c. search needs) (λ c κs. search needs) (λ c. search needs) (λ c κs. search needs) (λ c. search needs) (λ c κs. search needs) (λ c. search needs) returns)
+put-laid-spec =
+    tie.close
+    (tie.spec (λ c. search needs) (λ c κs. search needs) (λ c. search needs) (λ c κs. search needs) (λ c. search needs) (λ c κs. search needs)
+    (λ c. search needs) returns)

@@ -8,7 +8,9 @@ returns : tie.Need-returns
 returns c = not-laid _ _ _ _ _ _ (c .before .before .before .before .lay-out .ensures) _ _ (c .if1 .taken)
 
 returns-2 : tie.Need-returns-2
-returns-2 c = is-laid _ _ _ _ _ _ (c .before .before .before .before .before .before .before .before .before .before .lay-out .ensures) _ _ _ _ (c .before .before .before .before .before .before .if1 .left) (c .before .before .put-laid .ensures)
+returns-2 c =
+    let a = c .before .before .before .before .before .before in
+    is-laid _ _ _ _ _ _ (a .before .before .before .before .lay-out .ensures) _ _ _ _ (a .if1 .left) (c .before .before .put-laid .ensures)
 
 pub put-layout-spec : {M : Type 1} → statement M
 put-layout-spec =
