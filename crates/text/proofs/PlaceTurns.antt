@@ -1,15 +1,16 @@
 -- What the turns of a move show, and those of the search for the end of a line.
 use Prim.Native.Nat.{ℕ, _+_, _-_, _≤_, _<_}
-use mathlib.Core.Path.{_≡_, refl, ap, subst, sym}
+use mathlib.Core.Path.{_≡_, refl, ap, subst, sym, _∙_}
 use mathlib.Core.List.{List}
 use mathlib.Core.Bool.{Bool, true, false}
 use native.Mathlib.Omega.{arith}
 use borrow.Author.Tests.{eqb-true, eqb-false}
 use lib.Dec.{eqb}
-use lib.ListN.{length, getD}
+use lib.ListN.{length, getD, take, drop, length-drop}
+use lib.Seq.{length-take-le, getD-take, getD-drop}
 use Rattle.meaning.specs.declared.SourceLocation.{SourceLocation}
 use Rattle.meaning.specs.Places.{at, placeAt}
-use Rattle.text.specs.PlaceLaws.{step-lf, step-flat, LineEnd, line-below, column-below}
+use Rattle.text.specs.PlaceLaws.{step-lf, step-flat, LineLength, line-below, column-below}
 
 -- ---- a place on its way to the goal
 pub record Moved (s : List ℕ) (goal i l c : ℕ) : Type 0 where
@@ -33,53 +34,56 @@ move-starts s goal p e h k =
       is = sym e;
     }
 
--- from the place at i to the end of its line
-module _ {s : List ℕ} {goal i l c j : ℕ} (m : Moved s goal i l c) (e : LineEnd s i goal j) where
-  pub line-width : c + (j - i) ≤ goal
-  line-width = omega (arith, m .column, m .upto, e .from, e .upto)
+-- n bytes on, to the end of the line or to the goal
+module _ {s : List ℕ} {goal i l c n : ℕ} (m : Moved s goal i l c) (e : LineLength (take (goal - i) (drop i s)) n) where
+  part-length : length (take (goal - i) (drop i s)) ≡ goal - i
+  part-length = length-take-le (goal - i) (drop i s) (omega (arith, length-drop i s, m .inside, m .upto))
 
-  at-end : placeAt s j ≡ at j l (c + (j - i))
+  pub line-fits : i + n ≤ goal
+  line-fits = omega (arith, part-length, e .fits, m .upto)
+
+  part-byte : (j : ℕ) → j < goal - i → getD (take (goal - i) (drop i s)) j 0 ≡ getD s (i + j) 0
+  part-byte j h = getD-take (goal - i) (drop i s) j 0 h ∙ getD-drop i s j 0
+
+  at-end : placeAt s (i + n) ≡ at (i + n) l (c + n)
   at-end =
-      let a : i + (j - i) ≡ j = omega (arith, e .from) in
-      subst (λ (k : ℕ). placeAt s k ≡ at k l (c + (j - i))) a
-      (step-flat s i l c (j - i) (omega (arith, m .inside, e .upto, e .from)) (λ k g h. e .flat k g (omega (arith, e .from))) (m .is))
+      step-flat s i l c n (omega (arith, line-fits, m .inside))
+      (λ j h q. e .flat j h (part-byte j (omega (arith, line-fits)) ∙ q)) (m .is)
 
-  pub move-line : (j ≡ goal → ⊥) → Moved s goal (j + 1) (l + 1) 0
+  pub move-line : (i + n ≡ goal → ⊥) → Moved s goal (i + (n + 1)) (l + 1) 0
   move-line h =
-      let n : j < goal = omega (arith, e .upto) in
+      let z : i + n + 1 ≡ i + (n + 1) = omega arith in
+      let k : i + n < goal = omega (arith, line-fits) in
+      let f : getD s (i + n) 0 ≡ 10 = sym (part-byte n (omega arith)) ∙ e .stop (omega (arith, part-length)) in
       record {
         upto = omega arith;
         inside = m .inside;
-        line = omega (arith, m .line, e .from);
+        line = omega (arith, m .line);
         column = omega arith;
-        is = step-lf s j l (c + (j - i)) (omega (arith, m .inside)) (e .stop n) at-end;
+        is = rw (← z) (step-lf s (i + n) l (c + n) (omega (arith, m .inside)) f at-end);
       }
 
-  pub move-ends : j ≡ goal → at goal l (c + (j - i)) ≡ placeAt s goal
-  move-ends h = sym (subst (λ (k : ℕ). placeAt s k ≡ at k l (c + (j - i))) h at-end)
+  pub move-ends : i + n ≡ goal → at goal l (c + n) ≡ placeAt s goal
+  move-ends h = sym (subst (λ (k : ℕ). placeAt s k ≡ at k l (c + n)) h at-end)
 
--- ---- the search for the end of a line: none so far, up to i
-pub record Flat (s : List ℕ) (from goal i : ℕ) : Type 0 where
-  pub start : from ≤ i
-  pub upto : i ≤ goal
-  pub flat : (j : ℕ) → from ≤ j → j < i → getD s j 0 ≡ 10 → ⊥
+-- ---- the search for the end of a line: no LF before i
+pub record Flat (t : List ℕ) (i : ℕ) : Type 0 where
+  pub fits : i ≤ length t
+  pub flat : (j : ℕ) → j < i → getD t j 0 ≡ 10 → ⊥
 
-pub flat-starts : (s : List ℕ) (from goal : ℕ) → from ≤ goal → Flat s from goal from
-flat-starts s from goal h = record { start = omega arith; upto = h; flat = λ j g k. absurd (omega arith) }
+pub flat-starts : (t : List ℕ) → Flat t 0
+flat-starts t = record { fits = omega arith; flat = λ j h. absurd (omega arith) }
 
-module _ {s : List ℕ} {from goal i : ℕ} (f : Flat s from goal i) where
-  pub flat-more : i < goal → (getD s i 0 ≡ 10 → ⊥) → Flat s from goal (i + 1)
-  flat-more h n = record { start = omega (arith, f .start); upto = omega arith; flat = λ j g k. by j g k (eqb j i) refl }
+module _ {t : List ℕ} {i : ℕ} (f : Flat t i) where
+  pub flat-more : i < length t → (getD t i 0 ≡ 10 → ⊥) → Flat t (i + 1)
+  flat-more h n = record { fits = omega arith; flat = λ j k. by j k (eqb j i) refl }
     where
-      by : (j : ℕ) → from ≤ j → j < i + 1 → (b : Bool) → eqb j i ≡ b → getD s j 0 ≡ 10 → ⊥
-      by j g k true q = let e : j ≡ i = eqb-true j i q in rw e n
-      by j g k false q = let e : j ≡ i → ⊥ = eqb-false j i q in f .flat j g (omega arith)
+      by : (j : ℕ) → j < i + 1 → (b : Bool) → eqb j i ≡ b → getD t j 0 ≡ 10 → ⊥
+      by j k true q = let e : j ≡ i = eqb-true j i q in rw e n
+      by j k false q = let e : j ≡ i → ⊥ = eqb-false j i q in f .flat j (omega arith)
 
-  pub flat-found : getD s i 0 ≡ 10 → LineEnd s from goal i
-  flat-found e = record { from = f .start; upto = f .upto; flat = f .flat; stop = λ h. e }
+  pub flat-found : getD t i 0 ≡ 10 → LineLength t i
+  flat-found e = record { fits = f .fits; flat = f .flat; stop = λ h. e }
 
-  pub flat-none : goal ≤ i → LineEnd s from goal goal
-  flat-none h =
-      let e : i ≡ goal = omega (arith, f .upto) in
-      subst (λ (k : ℕ). LineEnd s from goal k) e
-      (record { from = f .start; upto = f .upto; flat = f .flat; stop = λ k. absurd (omega arith) })
+  pub flat-none : length t ≤ i → LineLength t i
+  flat-none h = record { fits = f .fits; flat = f .flat; stop = λ k. absurd (omega arith) }

@@ -50,20 +50,20 @@ pub convert-hex : (b : ℕ) (bs : List ℕ) → Digits 16 (b ∷ bs) → convert
 convert-hex b bs h = radix-good 16 b bs (omega arith) h
 
 -- ---- `0X` is no prefix; a plus sign alone is a bad digit; only nothing is empty
-pub convert-upper : (s : List ℕ) → convert (48 ∷ 88 ∷ s) ≡ BadDigit
+convert-upper : (s : List ℕ) → convert (48 ∷ 88 ∷ s) ≡ BadDigit
 unfolding digits
 convert-upper s = refl
 
-pub convert-plus : convert (43 ∷ []) ≡ BadDigit
+convert-plus : convert (43 ∷ []) ≡ BadDigit
 convert-plus = refl
 
-pub convert-prefix-plus : convert (48 ∷ 120 ∷ 43 ∷ []) ≡ BadDigit
+convert-prefix-plus : convert (48 ∷ 120 ∷ 43 ∷ []) ≡ BadDigit
 convert-prefix-plus = refl
 
-pub convert-nothing : convert [] ≡ Empty
+convert-nothing : convert [] ≡ Empty
 convert-nothing = refl
 
-pub convert-prefix : convert (48 ∷ 120 ∷ []) ≡ Empty
+convert-prefix : convert (48 ∷ 120 ∷ []) ≡ Empty
 convert-prefix = refl
 
 full-pick : (b : Bool) (c d : Converted) → (reasonOf c ≡ 1 → ⊥) → (reasonOf d ≡ 1 → ⊥) → reasonOf (pick b c d) ≡ 1 → ⊥

@@ -35,12 +35,12 @@ pub step-lf : (s : List ℕ) (i l c : ℕ) → i < length s → getD s i 0 ≡ 1
     → placeAt s (i + 1) ≡ at (i + 1) (l + 1) 0
 step-lf s i l c h e q = placeAt-step s i h ∙ simp (eq-eqb _ _ e, q)
 
-pub step-other : (s : List ℕ) (i l c : ℕ) → i < length s → (getD s i 0 ≡ 10 → ⊥) → placeAt s i ≡ at i l c
+step-other : (s : List ℕ) (i l c : ℕ) → i < length s → (getD s i 0 ≡ 10 → ⊥) → placeAt s i ≡ at i l c
     → placeAt s (i + 1) ≡ at (i + 1) l (c + 1)
 step-other s i l c h e q = placeAt-step s i h ∙ simp (ne-eqb _ _ e, q)
 
 -- over n bytes that are no LF
-pub step-flat : (s : List ℕ) (i l c n : ℕ) → i + n ≤ length s → ((j : ℕ) → i ≤ j → j < i + n → getD s j 0 ≡ 10 → ⊥) → placeAt s i ≡ at i l c
+pub step-flat : (s : List ℕ) (i l c n : ℕ) → i + n ≤ length s → ((j : ℕ) → j < n → getD s (i + j) 0 ≡ 10 → ⊥) → placeAt s i ≡ at i l c
     → placeAt s (i + n) ≡ at (i + n) l (c + n)
 step-flat s i l c zero h e q =
     let a : i + 0 ≡ i = add-zero i in
@@ -50,15 +50,13 @@ step-flat s i l c (suc n) h e q =
     let a : i + suc n ≡ i + n + 1 = omega arith in
     let b : c + suc n ≡ c + n + 1 = omega arith in
     rw (a, b)
-    (step-other s (i + n) l (c + n) (omega arith) (e (i + n) (omega arith) (omega arith))
-    (step-flat s i l c n (omega arith) (λ j g k. e j g (omega arith)) q))
+    (step-other s (i + n) l (c + n) (omega arith) (e n (omega arith)) (step-flat s i l c n (omega arith) (λ j k. e j (omega arith)) q))
 
--- the first LF from i on, before the goal; the goal, if there is none
-pub record LineEnd (s : List ℕ) (i goal r : ℕ) : Type 0 where
-  pub from : i ≤ r
-  pub upto : r ≤ goal
-  pub flat : (j : ℕ) → i ≤ j → j < r → getD s j 0 ≡ 10 → ⊥
-  pub stop : r < goal → getD s r 0 ≡ 10
+-- how many bytes from the front are no LF
+pub record LineLength (t : List ℕ) (r : ℕ) : Type 0 where
+  pub fits : r ≤ length t
+  pub flat : (j : ℕ) → j < r → getD t j 0 ≡ 10 → ⊥
+  pub stop : r < length t → getD t r 0 ≡ 10
 
 -- ---- bounds: q is n bytes past p
 pub record Near (n : ℕ) (q p : SourceLocation) : Type 0 where

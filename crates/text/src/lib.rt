@@ -9,7 +9,7 @@ ghost use Rattle.meaning.specs.Utf8.{has, character, valid};
 ghost use Rattle.meaning.specs.Places.{placeAt};
 ghost use Rattle.meaning.specs.Convert.{digitOf, digits, radix, convert, reasonOf, valueOf};
 ghost use Rattle.text.specs.Utf8Laws.{octets};
-ghost use Rattle.text.specs.PlaceLaws.{LineEnd};
+ghost use Rattle.text.specs.PlaceLaws.{LineLength};
 
 // Whether a byte stands at i, from least to most.
 fn octet(s: &[u8], i: usize, least: u8, most: u8) -> bool
@@ -109,19 +109,18 @@ pub fn valid_prefix(s: &[u8]) -> usize
     i
 }
 
-// The first LF from `from` on and before `to`; `to`, if there is none.
-fn line_end(s: &[u8], from: usize, to: usize) -> usize
-    requires { ⌜ (from ≤ to) × (to ≤ length (now s)) ⌝ }
-    ensures { λ r. ⌜ LineEnd (now (s .entry)) from to r ⌝ }
+// How many bytes from the front are no LF.
+fn line_length(s: &[u8]) -> usize
+    ensures { λ r. ⌜ LineLength (now (s .entry)) r ⌝ }
 {
-    let mut i = from;
-    while i < to {
+    let mut i: usize = 0;
+    while i < s.len() {
         if s[i] == 10 {
             return i;
         }
         i += 1;
     }
-    to
+    i
 }
 
 // The place p, moved forward to the offset `to`: a line more for each LF on the way.
@@ -133,17 +132,17 @@ pub fn move_to(s: &[u8], p: SourceLocation, to: usize) -> SourceLocation
     let mut column: usize = p.column;
     let mut i: usize = p.offset;
     loop {
-        let j = line_end(s, i, to);
-        if j == to {
+        let n = line_length(&s[i..to]);
+        if i + n == to {
             return SourceLocation {
                 offset: to,
                 line,
-                column: column + (j - i),
+                column: column + n,
             };
         }
         line += 1;
         column = 0;
-        i = j + 1;
+        i += n + 1;
     }
 }
 

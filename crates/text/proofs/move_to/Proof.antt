@@ -2,7 +2,7 @@
 use native.Mathlib.Omega.{arith}
 use Prim.Native.Nat.{_-_}
 use borrow.Author.Needs.{needs}
-use Rattle.text.proofs.PlaceTurns.{Moved, move-starts, line-width, move-line, move-ends}
+use Rattle.text.proofs.PlaceTurns.{Moved, move-starts, line-fits, move-line, move-ends}
 use Rattle.text.proofs.move_to.Statement.{statement}
 use Rattle.text.proofs.move_to.Tie as tie
 
@@ -15,33 +15,44 @@ abbrev μ-loop : tie.MeasureT-loop
 loop-holds : tie.Need-loop-holds Inv-loop μ-loop
 loop-holds c = move-starts _ _ (c .before .args .p) (c .before .pre .0) (c .before .pre .1 .0) (c .before .pre .1 .1)
 
-line-end-requires : tie.Need-line-end-requires Inv-loop μ-loop
-line-end-requires c κs = (c .loop .inv .upto, c .loop .inv .inside)
+sub-line-length : tie.Need-sub-line-length Inv-loop μ-loop
+sub-line-length c = c .loop .inv .upto
 
-sub-t9 : tie.Need-sub-t9 Inv-loop μ-loop
-sub-t9 c = c .before .line-end .ensures .from
+part-line-length-start : tie.Need-part-line-length-start Inv-loop μ-loop
+part-line-length-start c = c .loop .inv .upto
 
-add-t10 : tie.Need-add-t10 Inv-loop μ-loop
-add-t10 c = omega (arith, line-width (c .before .before .loop .inv) (c .before .line-end .ensures))
+part-line-length-end : tie.Need-part-line-length-end Inv-loop μ-loop
+part-line-length-end c = c .loop .inv .inside
+
+add-if1 : tie.Need-add-if1 Inv-loop μ-loop
+add-if1 c = omega (arith, line-fits (c .before .before .loop .inv) (c .line-length .ensures))
+
+add-t13 : tie.Need-add-t13 Inv-loop μ-loop
+add-t13 c =
+    let a = c .before in
+    let m = a .before .before .loop .inv in
+    omega (arith, m .column, line-fits m (a .line-length .ensures))
 
 returns : tie.Need-returns Inv-loop μ-loop
-returns c = move-ends (c .before .before .loop .inv) (c .before .line-end .ensures) (c .if1 .taken)
+returns c = let a = c .before in move-ends (a .before .before .loop .inv) (a .line-length .ensures) (c .if1 .taken)
 
 add-line : tie.Need-add-line Inv-loop μ-loop
-add-line c = omega (arith, move-line (c .before .before .loop .inv) (c .before .line-end .ensures) (c .if1 .left) .line)
+add-line c = let a = c .before in omega (arith, move-line (a .before .before .loop .inv) (a .line-length .ensures) (c .if1 .left) .line)
 
 add-i : tie.Need-add-i Inv-loop μ-loop
-add-i c = omega (arith, move-line (c .before .before .loop .inv) (c .before .line-end .ensures) (c .if1 .left) .upto)
+add-i c = let a = c .before in omega (arith, move-line (a .before .before .loop .inv) (a .line-length .ensures) (c .if1 .left) .upto)
+
+add-i-2 : tie.Need-add-i-2 Inv-loop μ-loop
+add-i-2 c = let a = c .before in omega (arith, move-line (a .before .before .loop .inv) (a .line-length .ensures) (c .if1 .left) .upto)
 
 loop-less : tie.Need-loop-less Inv-loop μ-loop
-loop-less c =
-    let e = c .before .line-end .ensures in
-    omega (arith, e .from, move-line (c .before .before .loop .inv) e (c .if1 .left) .upto)
+loop-less c = let a = c .before in omega (arith, move-line (a .before .before .loop .inv) (a .line-length .ensures) (c .if1 .left) .upto)
 
 loop-again : tie.Need-loop-again Inv-loop μ-loop
-loop-again c = move-line (c .before .before .loop .inv) (c .before .line-end .ensures) (c .if1 .left)
+loop-again c = let a = c .before in move-line (a .before .before .loop .inv) (a .line-length .ensures) (c .if1 .left)
 
 pub move-to-spec : {M : Type 1} → statement M
 move-to-spec =
     tie.close
-    (tie.spec Inv-loop μ-loop loop-holds line-end-requires sub-t9 add-t10 returns add-line add-i loop-less loop-again)
+    (tie.spec Inv-loop μ-loop loop-holds sub-line-length part-line-length-start part-line-length-end (λ c κs. search needs) add-if1 add-t13 returns
+    add-line add-i add-i-2 loop-less loop-again)
