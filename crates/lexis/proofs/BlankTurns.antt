@@ -99,7 +99,7 @@ module _ {t : List ℕ} {n : ℕ} (w : CommentNext t n) where
     pub comment-some : {k g : ℕ} → m ≡ Took k g → 0 < k
     comment-some e = subst Pos (sym (at n t h .is) ∙ e) (eats-pos (bytewise COMMENT) eats-comment (drop n t))
 
-    pub comment-fits : {k g : ℕ} → m ≡ Took k g → n + k ≤ length t
+    comment-fits : {k g : ℕ} → m ≡ Took k g → n + k ≤ length t
     comment-fits {k} {g} e =
         let a : k ≤ length (drop n t) = took-le m (drop n t) k g (at n t h .fits) e in
         let b : n ≤ length t = w .fits in

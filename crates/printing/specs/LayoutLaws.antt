@@ -14,16 +14,16 @@ use Rattle.printing.specs.PageLaws.{none-wrote}
 use Rattle.printing.specs.Layouts.{laid, layoutOf, layouts}
 
 -- ---- one declaration, from what the layout answered
-module _ (ds fs : List ℕ) (k : ℕ) (r : answer.Layout) (ps cs : List ℕ)
+module _ (ds fs : List ℕ) (k : ℕ) {r : answer.Layout} {ps cs : List ℕ}
     (e : answered r ps cs ≡ layout ds fs k (replicate (100 * placed-size) 0) (replicate (100 * chunk-size) 0)) where
-  pub not-laid : (at : ℕ) (p : List ℕ) → r .number ≡ 15 → Wrote (layoutOf ds fs k) at p at p
+  pub not-laid : {at : ℕ} {p : List ℕ} → r .number ≡ 15 → Wrote (layoutOf ds fs k) at p at p
   unfolding layoutOf
-  not-laid at p h = rw (← e, eq-eqb (r .number) 15 h) (none-wrote at p)
+  not-laid {at} {p} h = rw (← e, eq-eqb (r .number) 15 h) (none-wrote at p)
 
-  pub is-laid : (at : ℕ) (p : List ℕ) (n : ℕ) (q : List ℕ) → (r .number ≡ 15 → ⊥)
+  pub is-laid : {at n : ℕ} {p q : List ℕ} → (r .number ≡ 15 → ⊥)
       → Wrote (laid (k ∷ r .number ∷ r .place ∷ 0 ∷ r .placed ∷ r .chunks ∷ []) ps cs) at p n q → Wrote (layoutOf ds fs k) at p n q
   unfolding layoutOf
-  is-laid at p n q h w = rw (← e, ne-eqb (r .number) 15 h) w
+  is-laid h w = rw (← e, ne-eqb (r .number) 15 h) w
 
 -- ---- a loop over declarations
 pub next-layout : (ds fs : List ℕ) (left k : ℕ) → 0 < left → layouts ds fs left k ≡ layoutOf ds fs k ++ layouts ds fs (left - 1) (k + 1)

@@ -9,7 +9,7 @@ use lib.Seq.{drop-cons}
 use borrow.Author.Tests.{lt-ltb, le-ltb}
 use Rattle.printing.specs.Pages.{Page, page, put, wrote, Wrote, Left}
 
-pub wrote-append : (xs ys : List ℕ) (p : Page) → wrote (xs ++ ys) p ≡ wrote ys (wrote xs p)
+wrote-append : (xs ys : List ℕ) (p : Page) → wrote (xs ++ ys) p ≡ wrote ys (wrote xs p)
 unfolding wrote
 wrote-append [] ys p = refl
 wrote-append (x ∷ xs) ys p = wrote-append xs ys (put x p)
@@ -28,26 +28,25 @@ pub none-wrote : (at : ℕ) (p : List ℕ) → Wrote [] at p at p
 unfolding wrote
 none-wrote at p = record { is = refl; fits = λ h. h }
 
-pub then-wrote : (xs ys : List ℕ) (at : ℕ) (p : List ℕ) (r : ℕ) (q : List ℕ) (s : ℕ) (t : List ℕ)
-    → Wrote xs at p r q → Wrote ys r q s t → Wrote (xs ++ ys) at p s t
-then-wrote xs ys at p r q s t a b =
+pub then-wrote : {xs ys p q t : List ℕ} {at r s : ℕ} → Wrote xs at p r q → Wrote ys r q s t → Wrote (xs ++ ys) at p s t
+then-wrote {xs} {ys} {p} {at = at} a b =
     record { is = b .is ∙ ap (wrote ys) (a .is) ∙ sym (wrote-append xs ys (page at p)); fits = λ h. b .fits (a .fits h) }
 
 -- ---- a loop
 pub loop-start : (whole : List ℕ) (at : ℕ) (p : List ℕ) → Left whole whole at p at p
 loop-start whole at p = record { gives = refl; fits = λ h. h }
 
-pub loop-step : (x rest rest' whole : List ℕ) (at : ℕ) (p : List ℕ) (r : ℕ) (q : List ℕ) (s : ℕ) (t : List ℕ)
-    → rest ≡ x ++ rest' → Left rest whole at p r q → Wrote x r q s t → Left rest' whole at p s t
-loop-step x rest rest' whole at p r q s t e l w =
+pub loop-step : {x rest rest' whole p q t : List ℕ} {at r s : ℕ} → rest ≡ x ++ rest' → Left rest whole at p r q → Wrote x r q s t
+    → Left rest' whole at p s t
+loop-step {x} {rest' = rest'} {q = q} {r = r} e l w =
     record {
       gives = ap (wrote rest') (w .is) ∙ sym (wrote-append x rest' (page r q)) ∙ ap (λ (z : List ℕ). wrote z (page r q)) (sym e) ∙ l .gives;
       fits = λ h. w .fits (l .fits h);
     }
 
-pub loop-end : (rest whole : List ℕ) (at : ℕ) (p : List ℕ) (r : ℕ) (q : List ℕ) → rest ≡ [] → Left rest whole at p r q → Wrote whole at p r q
+pub loop-end : {rest whole p q : List ℕ} {at r : ℕ} → rest ≡ [] → Left rest whole at p r q → Wrote whole at p r q
 unfolding wrote
-loop-end rest whole at p r q e l =
+loop-end {q = q} {r = r} e l =
     record { is = ap (λ (z : List ℕ). wrote z (page r q)) (sym e) ∙ l .gives; fits = l .fits }
 
 -- the next byte of a text

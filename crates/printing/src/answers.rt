@@ -24,7 +24,8 @@ fn put_tables(
     constraints: &[u64],
     comments: &[u64],
 ) -> usize
-    ensures { λ r. ⌜ Wrote (tables counts (now (declarations .entry)) (now (fields .entry)) (now (tags .entry)) (now (constraints .entry)) (now (comments .entry))) at (now (page .entry)) r (now (page .exit)) ⌝ }
+    ensures { λ r. ⌜ Wrote (tables counts (now (declarations .entry)) (now (fields .entry)) (now (tags .entry)) (now (constraints .entry))
+        (now (comments .entry))) at (now (page .entry)) r (now (page .exit)) ⌝ }
 {
     let d = put_lines(
         page,
@@ -59,7 +60,8 @@ pub fn put_reading(
     constraints: &[u64],
     comments: &[u64],
 ) -> usize
-    ensures { λ r. ⌜ Wrote (reading endianness counts (now (declarations .entry)) (now (fields .entry)) (now (tags .entry)) (now (constraints .entry)) (now (comments .entry))) at (now (page .entry)) r (now (page .exit)) ⌝ }
+    ensures { λ r. ⌜ Wrote (reading endianness counts (now (declarations .entry)) (now (fields .entry)) (now (tags .entry))
+        (now (constraints .entry)) (now (comments .entry))) at (now (page .entry)) r (now (page .exit)) ⌝ }
 {
     let next = put_line(page, at, b'E', &endianness);
     put_tables(

@@ -1,3 +1,4 @@
+-- `block_comment` meets its contract: a text that is enclosed.
 use borrow.Author.Needs.{needs}
 use Rattle.meaning.specs.Pdl.{block-comment}
 use Rattle.lexis.proofs.blanks.block_comment.Statement.{statement}

@@ -1,3 +1,4 @@
+-- `comment` meets its contract: a block comment, or else a line comment.
 use borrow.Author.Needs.{needs}
 use Rattle.meaning.specs.Rules.{Rule}
 use Rattle.meaning.specs.Pdl.{COMMENT}

@@ -1,3 +1,4 @@
+-- `line_comment` meets its contract: two steps.
 use borrow.Author.Needs.{needs}
 use Rattle.meaning.specs.Pdl.{line-comment}
 use Rattle.grammar.specs.Steps.{chain}

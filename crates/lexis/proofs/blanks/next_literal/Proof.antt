@@ -1,3 +1,4 @@
+-- `next_literal` meets its contract: two steps.
 use borrow.Author.Needs.{needs}
 use Rattle.grammar.specs.Steps.{link}
 use Rattle.lexis.proofs.blanks.next_literal.Statement.{statement}

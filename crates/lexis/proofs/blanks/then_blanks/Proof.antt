@@ -1,3 +1,4 @@
+-- `then_blanks` meets its contract: a miss stays, and else the run is taken where m ends.
 use borrow.Author.Needs.{needs}
 use Rattle.grammar.specs.Steps.{missed, took-le}
 use Rattle.lexis.specs.Skips.{skip-steps}

@@ -1,3 +1,4 @@
+-- `then_last_comma` meets its contract: a step that may miss.
 use borrow.Author.Needs.{needs}
 use Rattle.grammar.specs.Steps.{link, option}
 use Rattle.lexis.proofs.blanks.then_last_comma.Statement.{statement}

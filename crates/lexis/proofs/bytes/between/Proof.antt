@@ -1,3 +1,4 @@
+-- `between` meets its contract: below, or not.
 use borrow.Author.Tests.{le-leb, lt-leb}
 use Rattle.lexis.proofs.bytes.between.Statement.{statement}
 use Rattle.lexis.proofs.bytes.between.Tie as tie

@@ -1,3 +1,4 @@
+-- `in_class` meets its contract: class by class.
 use borrow.Author.Needs.{needs}
 use Rattle.lexis.proofs.bytes.in_class.Statement.{statement}
 use Rattle.lexis.proofs.bytes.in_class.Tie as tie

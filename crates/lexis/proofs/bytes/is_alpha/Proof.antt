@@ -1,3 +1,4 @@
+-- `is_alpha` meets its contract: two ranges.
 use borrow.Author.Needs.{needs}
 use Rattle.lexis.proofs.bytes.is_alpha.Statement.{statement}
 use Rattle.lexis.proofs.bytes.is_alpha.Tie as tie

@@ -1,3 +1,4 @@
+-- `is_alphanum` meets its contract: a letter, a digit or an underscore.
 use borrow.Author.Needs.{needs}
 use Rattle.lexis.proofs.bytes.is_alphanum.Statement.{statement}
 use Rattle.lexis.proofs.bytes.is_alphanum.Tie as tie

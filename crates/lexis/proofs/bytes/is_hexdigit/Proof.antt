@@ -1,3 +1,4 @@
+-- `is_hexdigit` meets its contract: a digit or one of two ranges.
 use borrow.Author.Needs.{needs}
 use Rattle.lexis.proofs.bytes.is_hexdigit.Statement.{statement}
 use Rattle.lexis.proofs.bytes.is_hexdigit.Tie as tie

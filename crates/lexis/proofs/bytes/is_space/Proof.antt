@@ -1,3 +1,4 @@
+-- `is_space` meets its contract: four bytes.
 use borrow.Author.Needs.{needs}
 use Rattle.lexis.proofs.bytes.is_space.Statement.{statement}
 use Rattle.lexis.proofs.bytes.is_space.Tie as tie

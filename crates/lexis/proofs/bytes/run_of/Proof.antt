@@ -1,3 +1,4 @@
+-- `run_of` meets its contract: the bytes before i are of the class.
 use native.Mathlib.Omega.{arith}
 use Prim.Native.Nat.{_≤_, _-_, _+_}
 use mathlib.Core.Path.{_≡_, sym, _∙_}

@@ -1,3 +1,4 @@
+-- `then_word` meets its contract: a miss stays, and else the word is looked for where m ends.
 use borrow.Author.Needs.{needs}
 use denote.Ref.{now}
 use Rattle.grammar.specs.Steps.{missed, took, took-le, at}

@@ -1,3 +1,4 @@
+-- `word_of` meets its contract: nothing, another byte, or a word.
 use mathlib.Core.Path.{sym, _∙_}
 use borrow.Author.Needs.{needs}
 use borrow.Author.Tests.{not-true, not-false}

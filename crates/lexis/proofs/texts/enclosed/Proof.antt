@@ -1,3 +1,4 @@
+-- `enclosed` meets its contract: three steps.
 use borrow.Author.Needs.{needs}
 use Rattle.grammar.specs.Steps.{chain}
 use Rattle.lexis.proofs.texts.enclosed.Statement.{statement}

@@ -1,3 +1,4 @@
+-- `literal` meets its contract: the bytes before i are those of the text.
 use native.Mathlib.Omega.{arith}
 use Prim.Native.Nat.{_≤_, _-_}
 use mathlib.Core.Path.{_≡_, refl, _∙_}

@@ -1,3 +1,4 @@
+-- `hexvalue` meets its contract: two steps.
 use borrow.Author.Needs.{needs}
 use Rattle.meaning.specs.Pdl.{hexvalue}
 use Rattle.grammar.specs.Steps.{chain}

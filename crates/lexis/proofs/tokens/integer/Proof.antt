@@ -1,3 +1,4 @@
+-- `integer` meets its contract: either of two numbers.
 use borrow.Author.Needs.{needs}
 use Rattle.meaning.specs.Rules.{Rule}
 use Rattle.meaning.specs.Pdl.{integer}

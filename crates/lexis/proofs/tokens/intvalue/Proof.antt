@@ -1,3 +1,4 @@
+-- `intvalue` meets its contract.
 use borrow.Author.Needs.{needs}
 use Rattle.meaning.specs.Pdl.{intvalue}
 use Rattle.lexis.proofs.tokens.intvalue.Statement.{statement}

@@ -1,3 +1,4 @@
+-- `keyword` meets its contract: two steps.
 use borrow.Author.Needs.{needs}
 use Rattle.grammar.specs.Steps.{chain}
 use Rattle.lexis.proofs.tokens.keyword.Statement.{statement}

@@ -1,3 +1,4 @@
+-- `next_identifier` meets its contract: two steps.
 use borrow.Author.Needs.{needs}
 use Rattle.grammar.specs.Steps.{link}
 use Rattle.lexis.proofs.tokens.next_identifier.Statement.{statement}

@@ -1,3 +1,4 @@
+-- `prefix` meets its contract: either of two texts.
 use borrow.Author.Needs.{needs}
 use Rattle.grammar.specs.Steps.{choice, kept, tried}
 use Rattle.lexis.proofs.tokens.prefix.Statement.{statement}

@@ -1,3 +1,4 @@
+-- `size_modifier` meets its contract: two steps.
 use borrow.Author.Needs.{needs}
 use Rattle.meaning.specs.Rules.{Rule}
 use Rattle.meaning.specs.Pdl.{intvalue, size-modifier}

@@ -1,3 +1,4 @@
+-- `string` meets its contract: a text that is enclosed.
 use borrow.Author.Needs.{needs}
 use Rattle.meaning.specs.Rules.{Rule}
 use Rattle.meaning.specs.Pdl.{string}

@@ -1,3 +1,4 @@
+-- `then_body_identifier` meets its contract.
 use borrow.Author.Needs.{needs}
 use Rattle.meaning.specs.Rules.{Rule}
 use Rattle.meaning.specs.Pdl.{body-identifier}

@@ -1,3 +1,4 @@
+-- `whitespace` meets its contract: nothing, a space, another blank, or none.
 use mathlib.Core.Path.{sym, _∙_}
 use borrow.Author.Needs.{needs}
 use Rattle.lexis.specs.Classes.{white-none, white-space, white-other, white-not}

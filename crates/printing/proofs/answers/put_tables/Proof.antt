@@ -6,13 +6,15 @@ use Rattle.printing.proofs.answers.put_tables.Tie as tie
 
 returns : tie.Need-returns
 returns c =
-    let d = c .before .before .before .before .before .before .before .before .before .before .before .before .before .before .before .before .before .before .put-lines .ensures in
-    let f = c .before .before .before .before .before .before .before .before .before .before .before .before .before .before .put-lines2 .ensures in
-    let t = c .before .before .before .before .before .before .before .before .before .before .put-lines3 .ensures in
-    let m = c .before .before .before .before .before .before .put-lines4 .ensures in
-    then-wrote _ _ _ _ _ _ _ _ (then-wrote _ _ _ _ _ _ _ _ (then-wrote _ _ _ _ _ _ _ _ (then-wrote _ _ _ _ _ _ _ _ d f) t) m) (c .before .before .put-lines5 .ensures)
+    let m = c .before .before .before .before .before .before in
+    let t = m .before .before .before .before in
+    let f = t .before .before .before .before in
+    let d = f .before .before .before .before .put-lines .ensures in
+    then-wrote (then-wrote (then-wrote (then-wrote d (f .put-lines2 .ensures)) (t .put-lines3 .ensures)) (m .put-lines4 .ensures))
+    (c .before .before .put-lines5 .ensures)
 
 pub put-tables-spec : {M : Type 1} → statement M
 put-tables-spec =
     tie.close
-    (tie.spec (λ c. search needs) (λ c κs. search needs) (λ c. search needs) (λ c κs. search needs) (λ c. search needs) (λ c κs. search needs) (λ c. search needs) (λ c κs. search needs) (λ c. search needs) (λ c κs. search needs) (λ c. search needs) returns)
+    (tie.spec (λ c. search needs) (λ c κs. search needs) (λ c. search needs) (λ c κs. search needs) (λ c. search needs) (λ c κs. search needs)
+    (λ c. search needs) (λ c κs. search needs) (λ c. search needs) (λ c κs. search needs) (λ c. search needs) returns)

@@ -6,7 +6,8 @@ use Rattle.printing.proofs.layouts.put_laid.Tie as tie
 
 returns : tie.Need-returns
 returns c =
-    then-wrote _ _ _ _ _ _ _ _ (then-wrote _ _ _ _ _ _ _ _ (c .before .before .before .before .before .before .before .before .before .before .put-line .ensures) (c .before .before .before .before .before .before .put-lines .ensures)) (c .before .before .put-lines2 .ensures)
+    let a = c .before .before .before .before .before .before in
+    then-wrote (then-wrote (a .before .before .before .before .put-line .ensures) (a .put-lines .ensures)) (c .before .before .put-lines2 .ensures)
 
 pub put-laid-spec : {M : Type 1} → statement M
 put-laid-spec =

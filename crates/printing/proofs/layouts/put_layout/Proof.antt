@@ -5,14 +5,15 @@ use Rattle.printing.proofs.layouts.put_layout.Statement.{statement}
 use Rattle.printing.proofs.layouts.put_layout.Tie as tie
 
 returns : tie.Need-returns
-returns c = not-laid _ _ _ _ _ _ (c .before .before .before .before .lay-out .ensures) _ _ (c .if1 .taken)
+returns c = not-laid _ _ _ (c .before .before .before .before .lay-out .ensures) (c .if1 .taken)
 
 returns-2 : tie.Need-returns-2
 returns-2 c =
     let a = c .before .before .before .before .before .before in
-    is-laid _ _ _ _ _ _ (a .before .before .before .before .lay-out .ensures) _ _ _ _ (a .if1 .left) (c .before .before .put-laid .ensures)
+    is-laid _ _ _ (a .before .before .before .before .lay-out .ensures) (a .if1 .left) (c .before .before .put-laid .ensures)
 
 pub put-layout-spec : {M : Type 1} → statement M
 put-layout-spec =
     tie.close
-    (tie.spec (λ c. search needs) (λ c. search needs) (λ c κs. search needs) returns (λ c. search needs) (λ c. search needs) (λ c κs. search needs) (λ c. search needs) returns-2)
+    (tie.spec (λ c. search needs) (λ c. search needs) (λ c κs. search needs) returns (λ c. search needs) (λ c. search needs) (λ c κs. search needs)
+    (λ c. search needs) returns-2)

@@ -28,7 +28,7 @@ loop-again c =
       search needs,
       (
         put .kept .0 ∙ l .inv .1 .0,
-        loop-step _ _ _ _ _ _ _ _ _ _ (next-layout _ _ _ _ (c .before .before .before .before .loop-test .taken)) (l .inv .1 .1) (put .ensures),
+        loop-step (next-layout _ _ _ _ (c .before .before .before .before .loop-test .taken)) (l .inv .1 .1) (put .ensures),
       ),
     )
 
@@ -36,7 +36,7 @@ same-length : tie.Need-same-length Inv-loop μ-loop
 same-length c = c .before .loop .inv .1 .0
 
 returns : tie.Need-returns Inv-loop μ-loop
-returns c = loop-end _ _ _ _ _ _ (no-layout _ _ _ _ (c .loop-test .left)) (c .before .loop .inv .1 .1)
+returns c = loop-end (no-layout _ _ _ _ (c .loop-test .left)) (c .before .loop .inv .1 .1)
 
 pub put-layouts-spec : {M : Type 1} → statement M
 put-layouts-spec =

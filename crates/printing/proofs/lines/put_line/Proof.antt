@@ -8,7 +8,7 @@ returns : tie.Need-returns
 returns c =
     let first = c .before .before .before .before .before .before .before .before .before .before .put-byte .ensures in
     let words = c .before .before .before .before .before .before .put-words .ensures in
-    then-wrote _ _ _ _ _ _ _ _ (then-wrote _ _ _ _ _ _ _ _ first words) (c .before .before .put-byte2 .ensures)
+    then-wrote (then-wrote first words) (c .before .before .put-byte2 .ensures)
 
 pub put-line-spec : {M : Type 1} → statement M
 put-line-spec = tie.close (tie.spec (λ c κs. search needs) (λ c κs. search needs) (λ c κs. search needs) (λ c. search needs) returns)

@@ -27,19 +27,25 @@ same-length c = c .before .before .loop .inv .1 .0
 returns : tie.Need-returns Inv-loop μ-loop
 returns c =
     let l = c .before .before .loop in
-    loop-end _ _ _ _ _ _ (no-row-there _ _ _ (l .base) (c .before .before .before .before .before .args .table .now) (c .if1 .taken)) (l .inv .1 .1)
+    loop-end (no-row-there _ _ _ (l .base) (c .before .before .before .before .before .args .table .now) (c .if1 .taken)) (l .inv .1 .1)
 
 loop-again : tie.Need-loop-again Inv-loop μ-loop
 loop-again c =
-    let l = c .before .before .before .before .before .before .before .loop in
-    let put = c .before .before .put-line in
-    (search needs, (put .kept .0 ∙ l .inv .1 .0, loop-step _ _ _ _ _ _ _ _ _ _ (next-row _ _ _ _ _ (c .before .before .before .before .before .before .loop-test .taken) (l .inv .0) (c .before .before .before .before .before .if1 .left)) (l .inv .1 .1) (put .ensures)))
+    let a = c .before .before .before .before .before in
+    let l = a .before .before .loop in
+    let put = c .before .before .put-line in (
+      search needs,
+      (
+        put .kept .0 ∙ l .inv .1 .0,
+        loop-step (next-row _ _ _ _ _ (a .before .loop-test .taken) (l .inv .0) (a .if1 .left)) (l .inv .1 .1) (put .ensures),
+      ),
+    )
 
 same-length-2 : tie.Need-same-length-2 Inv-loop μ-loop
 same-length-2 c = c .before .loop .inv .1 .0
 
 returns-2 : tie.Need-returns-2 Inv-loop μ-loop
-returns-2 c = loop-end _ _ _ _ _ _ (no-row-asked _ _ _ _ (c .loop-test .left)) (c .before .loop .inv .1 .1)
+returns-2 c = loop-end (no-row-asked _ _ _ _ (c .loop-test .left)) (c .before .loop .inv .1 .1)
 
 pub put-lines-spec : {M : Type 1} → statement M
 put-lines-spec =

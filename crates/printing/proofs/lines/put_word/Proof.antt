@@ -6,7 +6,7 @@ use Rattle.printing.proofs.lines.put_word.Tie as tie
 
 returns : tie.Need-returns
 returns c =
-    then-wrote _ _ _ _ _ _ _ _ (c .before .before .before .before .before .before .put-byte .ensures) (c .before .before .put-number .ensures)
+    then-wrote (c .before .before .before .before .before .before .put-byte .ensures) (c .before .before .put-number .ensures)
 
 pub put-word-spec : {M : Type 1} → statement M
 put-word-spec = tie.close (tie.spec (λ c κs. search needs) (λ c κs. search needs) (λ c. search needs) returns)

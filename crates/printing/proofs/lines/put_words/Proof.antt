@@ -22,18 +22,20 @@ loop-holds c = (search needs, (refl, loop-start _ _ _))
 
 loop-again : tie.Need-loop-again Inv-loop μ-loop
 loop-again c =
-    let l = c .before .before .before .before .before .before .loop in
+    let a = c .before .before .before .before .before in
+    let l = a .before .loop in
     let put = c .before .before .put-word in
-    (search needs, (put .kept .0 ∙ l .inv .1 .0, loop-step _ _ _ _ _ _ _ _ _ _ (next-word _ _ (c .before .before .before .before .before .loop-test .taken)) (l .inv .1 .1) (put .ensures)))
+    (search needs, (put .kept .0 ∙ l .inv .1 .0, loop-step (next-word _ _ (a .loop-test .taken)) (l .inv .1 .1) (put .ensures)))
 
 same-length : tie.Need-same-length Inv-loop μ-loop
 same-length c = c .before .loop .inv .1 .0
 
 returns : tie.Need-returns Inv-loop μ-loop
 returns c =
-    loop-end _ _ _ _ _ _ (no-word _ _ (c .loop-test .left)) (c .before .loop .inv .1 .1)
+    loop-end (no-word _ _ (c .loop-test .left)) (c .before .loop .inv .1 .1)
 
 pub put-words-spec : {M : Type 1} → statement M
 put-words-spec =
     tie.close
-    (tie.spec Inv-loop μ-loop loop-holds (λ c. search needs) (λ c. search needs) (λ c κs. search needs) (λ c. search needs) (λ c. search needs) loop-again same-length returns)
+    (tie.spec Inv-loop μ-loop loop-holds (λ c. search needs) (λ c. search needs) (λ c κs. search needs) (λ c. search needs) (λ c. search needs)
+    loop-again same-length returns)

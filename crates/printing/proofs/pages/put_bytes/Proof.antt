@@ -20,16 +20,17 @@ loop-holds c = (search needs, (refl, loop-start _ _ _))
 
 loop-again : tie.Need-loop-again Inv-loop μ-loop
 loop-again c =
-    let l = c .before .before .before .before .before .before .loop in
+    let a = c .before .before .before .before .before in
+    let l = a .before .loop in
     let put = c .before .before .put-byte in
-    (search needs, (put .kept .0 ∙ l .inv .1 .0, loop-step _ _ _ _ _ _ _ _ _ _ (next-byte _ _ (c .before .before .before .before .before .loop-test .taken)) (l .inv .1 .1) (put .ensures)))
+    (search needs, (put .kept .0 ∙ l .inv .1 .0, loop-step (next-byte _ _ (a .loop-test .taken)) (l .inv .1 .1) (put .ensures)))
 
 same-length : tie.Need-same-length Inv-loop μ-loop
 same-length c = c .before .loop .inv .1 .0
 
 returns : tie.Need-returns Inv-loop μ-loop
 returns c =
-    loop-end _ _ _ _ _ _ (no-byte _ _ (c .loop-test .left)) (c .before .loop .inv .1 .1)
+    loop-end (no-byte _ _ (c .loop-test .left)) (c .before .loop .inv .1 .1)
 
 pub put-bytes-spec : {M : Type 1} → statement M
 put-bytes-spec =

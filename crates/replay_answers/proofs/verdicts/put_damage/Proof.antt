@@ -11,7 +11,7 @@ returns c =
     let last = c .before .before in
     let place = last .before .before .before .before in
     let text = place .before .before .before .before in
-    then-wrote _ _ _ _ _ _ _ _ (then-wrote _ _ _ _ _ _ _ _ (text .put-bytes .ensures) (place .put-number .ensures)) (last .put-byte .ensures)
+    then-wrote (then-wrote (text .put-bytes .ensures) (place .put-number .ensures)) (last .put-byte .ensures)
 
 pub put-damage-spec : {M : Type 1} → statement M
 put-damage-spec =

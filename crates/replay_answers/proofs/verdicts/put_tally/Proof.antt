@@ -12,8 +12,8 @@ returns c =
     let failed = last .before .before .before .before .before in
     let text = failed .before .before .before .before in
     let passed = text .before .before .before .before .before in
-    then-wrote _ _ _ _ _ _ _ _
-    (then-wrote _ _ _ _ _ _ _ _ (then-wrote _ _ _ _ _ _ _ _ (passed .put-number .ensures) (text .put-bytes .ensures)) (failed .put-number2 .ensures))
+    then-wrote
+    (then-wrote (then-wrote (passed .put-number .ensures) (text .put-bytes .ensures)) (failed .put-number2 .ensures))
     (last .put-bytes2 .ensures)
 
 pub put-tally-spec : {M : Type 1} → statement M
