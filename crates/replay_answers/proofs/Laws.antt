@@ -17,9 +17,9 @@ use Rattle.listing.specs.Lists.{listed}
 use Rattle.listing.specs.Enough.{tables-room}
 use Rattle.replay_answers.specs.declared.entries.Entry.{Entry}
 use Rattle.replay_answers.specs.declared.Tally.{Tally}
-use Rattle.replay_answers.specs.Entries.{Tells, part, over, heading, entry, Stands, Behind, Ends, Ordered, Found}
-use Rattle.replay_answers.specs.Tallies.{Counted, Answered, Step, same, other, Replayed, here, more, start}
-use Rattle.replay_answers.specs.Verdicts.{ending, tallied, damaged, Told}
+use Rattle.replay_answers.specs.Entries.{Tells, part, over, heading, entry, Stands, Behind, Ends, Ordered, EntryAt}
+use Rattle.replay_answers.specs.Tallies.{Bounds, Answered, Step, same, other, Replayed, here, more, start}
+use Rattle.replay_answers.specs.Verdicts.{ending, tallied, damaged, TallyLine}
 
 -- an answer that is not true: the fact does not hold
 pub untold : (r : Bool) (fact : Type 0) → Tells r fact → r ≡ false → fact → ⊥
@@ -76,10 +76,10 @@ fed : (list : List ℕ) (a b : ℕ) → a < length list → getD list a 0 ≡ 10
 fed list a b h e n = let z : b ≡ suc a = omega arith in drop-cons list a 0 h ∙ cc
 
 module _ (list : List ℕ) (at source n m stop lines last : ℕ) (from : at ≤ source) (inside : source ≤ length list) where
-  pub found : Ends list source n stop → Behind list stop lines → Ends list lines m last → last < length list → part list at source ≡ line 83 (n ∷ m ∷ [])
-      → Found list at (record { source = source; stop = stop; lines = lines; last = last; next = last + 1 })
+  pub entry-stands : Ends list source n stop → Behind list stop lines → Ends list lines m last → last < length list → part list at source ≡ line 83 (n ∷ m ∷ [])
+      → EntryAt list at (record { source = source; stop = stop; lines = lines; last = last; next = last + 1 })
   unfolding entry
-  found s b l h e =
+  entry-stands s b l h e =
       let u : last ≡ lines + m = l .whole h .0 in
       let v : stop < length list = omega (arith, b .from, l .from) in
       let w : stop ≡ source + n = s .whole v .0 in
@@ -106,24 +106,24 @@ joined list t a here = a
 joined list t a (more e b f g) = more e (joined list t a b) f g
 
 module _ (list : List ℕ) (t : Tally) (e : Entry) (r : Tally) where
-  pub one-more : Counted list t → Found list (t .at) e → (e .next ≡ t .at → ⊥) → Step list t e r
-      → Replayed list t r × (Counted list r × (t .at ≤ r .at))
+  pub one-more : Bounds list t → EntryAt list (t .at) e → (e .next ≡ t .at → ⊥) → Step list t e r
+      → Replayed list t r × (Bounds list r × (t .at ≤ r .at))
   one-more k f z s = go r s
     where
       later : t .at < e .next
       later = omega (arith, f .from)
 
-      go : (r : Tally) → Step list t e r → Replayed list t r × (Counted list r × (t .at ≤ r .at))
+      go : (r : Tally) → Step list t e r → Replayed list t r × (Bounds list r × (t .at ≤ r .at))
       go r (same a) =
-          (more e here (f .stands later) (same a), (record { counted = omega (arith, k .counted); inside = f .ordered .inside }, omega (arith, f .from)))
+          (more e here (f .stands later) (same a), (record { few = omega (arith, k .few); inside = f .ordered .inside }, omega (arith, f .from)))
       go r (other a) =
-          (more e here (f .stands later) (other a), (record { counted = omega (arith, k .counted); inside = f .ordered .inside }, omega (arith, f .from)))
+          (more e here (f .stands later) (other a), (record { few = omega (arith, k .few); inside = f .ordered .inside }, omega (arith, f .from)))
 
 -- ---- what is written of it
 module _ (list : List ℕ) (t : Tally) (p : List ℕ) (n : ℕ) (q : List ℕ) (r : Bool) (s : Tells r (drop (t .at) list ≡ ending (t .passed + t .failed))) where
-  pub told-tally : r ≡ true → Wrote (tallied (t .passed) (t .failed)) 0 p n q → Told list t p n q
-  told-tally e w = record { ended = λ _. w; broken = λ no. absurd (no (s .0 e)); count = counts _ _ _ _ w }
+  pub line-tally : r ≡ true → Wrote (tallied (t .passed) (t .failed)) 0 p n q → TallyLine list t p n q
+  line-tally e w = record { ended = λ _. w; broken = λ no. absurd (no (s .0 e)); count = counts _ _ _ _ w }
 
-  pub told-damage : r ≡ false → Wrote (damaged (t .at)) 0 p n q → Told list t p n q
-  told-damage e w =
+  pub line-damage : r ≡ false → Wrote (damaged (t .at)) 0 p n q → TallyLine list t p n q
+  line-damage e w =
       record { ended = λ yes. absurd (untold _ _ s e yes); broken = λ _. w; count = counts _ _ _ _ w }

@@ -51,7 +51,7 @@ pub record Ordered (list : List ℕ) (e : Entry) : Type 0 where
   pub inside : e .next ≤ length list
 
 -- an entry that ends behind the place where it starts stands there; one that ends where it starts is none
-pub record Found (list : List ℕ) (at : ℕ) (e : Entry) : Type 0 where
+pub record EntryAt (list : List ℕ) (at : ℕ) (e : Entry) : Type 0 where
   pub ordered : Ordered list e
   pub from : at ≤ e .next
   pub stands : at < e .next → Stands list at e

@@ -11,8 +11,8 @@ use Rattle.replay_answers.specs.declared.Tally.{Tally}
 use Rattle.replay_answers.specs.Entries.{part, heading, Stands}
 
 -- a tally counts no more entries than it has read bytes, and stands in the list
-pub record Counted (list : List ℕ) (t : Tally) : Type 0 where
-  pub counted : t .passed + t .failed ≤ t .at
+pub record Bounds (list : List ℕ) (t : Tally) : Type 0 where
+  pub few : t .passed + t .failed ≤ t .at
   pub inside : t .at ≤ length list
 
 -- the lines of an entry are those of its source

@@ -32,7 +32,7 @@ unfolding damaged
 damaged-room at = simp length-append (omega (arith, digits-room 20 at))
 
 -- what is written of a tally: itself where the list ends there with its last line, else the damage
-pub record Told (list : List ℕ) (t : Tally) (before : List ℕ) (r : ℕ) (after : List ℕ) : Type 0 where
+pub record TallyLine (list : List ℕ) (t : Tally) (before : List ℕ) (r : ℕ) (after : List ℕ) : Type 0 where
   pub ended : drop (t .at) list ≡ ending (t .passed + t .failed) → Wrote (tallied (t .passed) (t .failed)) 0 before r after
   pub broken : (drop (t .at) list ≡ ending (t .passed + t .failed) → ⊥) → Wrote (damaged (t .at)) 0 before r after
   pub count : Counts r after
@@ -41,5 +41,5 @@ pub record Told (list : List ℕ) (t : Tally) (before : List ℕ) (r : ℕ) (aft
 pub record Verdict (list before : List ℕ) (r : ℕ) (after : List ℕ) : Type 0 where
   pub tally : Tally
   pub replayed : Replayed list (start list) tally
-  pub told : Told list tally before r after
+  pub line : TallyLine list tally before r after
   pub count : Counts r after

@@ -3,7 +3,7 @@ ghost use Prim.Native.Nat.{_≤_};
 ghost use mathlib.Core.Path.{_≡_};
 ghost use mathlib.Core.Bool.{false};
 ghost use lib.ListN.{length};
-ghost use Rattle.replay_answers.specs.Entries.{over, heading, Behind, Ends, Found};
+ghost use Rattle.replay_answers.specs.Entries.{over, heading, Behind, Ends, EntryAt};
 use crate::lines::is_line;
 use lexis::bytes::Class;
 use lexis::bytes::run_of;
@@ -91,7 +91,7 @@ fn part_end(list: &[u8], at: usize, bytes: u64) -> usize
 // No entry: one that ends where it starts.
 fn none(list: &[u8], at: usize) -> Entry
     requires { ⌜ at ≤ length (now list) ⌝ }
-    ensures { λ r. ⌜ Found (now (list .entry)) at r ⌝ }
+    ensures { λ r. ⌜ EntryAt (now (list .entry)) at r ⌝ }
 {
     Entry {
         source: at,
@@ -105,7 +105,7 @@ fn none(list: &[u8], at: usize) -> Entry
 // The entry between whose start and source its line stands, with parts of so many bytes.
 fn entry_of(list: &[u8], at: usize, source: usize, n: u64, m: u64) -> Entry
     requires { ⌜ (at ≤ source) × (source ≤ length (now list)) ⌝ }
-    ensures { λ r. ⌜ Found (now (list .entry)) at r ⌝ }
+    ensures { λ r. ⌜ EntryAt (now (list .entry)) at r ⌝ }
 {
     let stop = part_end(list, source, n);
     let lines = behind(list, stop);
@@ -128,7 +128,7 @@ fn entry_of(list: &[u8], at: usize, source: usize, n: u64, m: u64) -> Entry
 // The entry that starts there. Its numbers are read between bytes that are not looked at, since its whole line is compared afterwards.
 pub fn entry_at(list: &[u8], at: usize) -> Entry
     requires { ⌜ at ≤ length (now list) ⌝ }
-    ensures { λ r. ⌜ Found (now (list .entry)) at r ⌝ }
+    ensures { λ r. ⌜ EntryAt (now (list .entry)) at r ⌝ }
 {
     let n = number_at(list, behind(list, behind(list, at)));
     let m = number_at(list, behind(list, n.end));

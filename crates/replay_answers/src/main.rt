@@ -7,7 +7,7 @@ ghost use lib.ListN.{length, replicate};
 ghost use Rattle.listing.specs.declared.Wanted.the-variants.{Tables};
 ghost use Rattle.listing.specs.Lists.{listed};
 ghost use Rattle.replay_answers.specs.Entries.{Tells, Ordered};
-ghost use Rattle.replay_answers.specs.Tallies.{Counted, Step, Replayed, start};
+ghost use Rattle.replay_answers.specs.Tallies.{Bounds, Step, Replayed, start};
 ghost use Rattle.replay_answers.specs.Verdicts.{Verdict};
 use entries::Entry;
 use entries::entry_at;
@@ -63,8 +63,8 @@ fn counted(list: &[u8], t: Tally, e: Entry) -> Tally
 
 // The tally with the entry that follows; the same tally where there is none.
 fn with_next(list: &[u8], t: Tally) -> Tally
-    requires { ⌜ Counted (now list) t ⌝ }
-    ensures { λ r. ⌜ Replayed (now (list .entry)) t r × (Counted (now (list .entry)) r × (t .at ≤ r .at)) ⌝ }
+    requires { ⌜ Bounds (now list) t ⌝ }
+    ensures { λ r. ⌜ Replayed (now (list .entry)) t r × (Bounds (now (list .entry)) r × (t .at ≤ r .at)) ⌝ }
 {
     let at = t.at;
     let e = entry_at(list, at);
@@ -76,7 +76,7 @@ fn with_next(list: &[u8], t: Tally) -> Tally
 
 // The tally of all entries.
 fn replayed(list: &[u8]) -> Tally
-    ensures { λ r. ⌜ Replayed (now (list .entry)) (start (now (list .entry))) r × Counted (now (list .entry)) r ⌝ }
+    ensures { λ r. ⌜ Replayed (now (list .entry)) (start (now (list .entry))) r × Bounds (now (list .entry)) r ⌝ }
 {
     let mut t = Tally {
         passed: 0,

@@ -4,8 +4,8 @@ ghost use mathlib.Core.Path.{_≡_};
 ghost use lib.ListN.{length, drop};
 ghost use Rattle.printing.specs.Pages.{Wrote};
 ghost use Rattle.replay_answers.specs.Entries.{Tells};
-ghost use Rattle.replay_answers.specs.Tallies.{Counted};
-ghost use Rattle.replay_answers.specs.Verdicts.{ending, tallied, damaged, Told};
+ghost use Rattle.replay_answers.specs.Tallies.{Bounds};
+ghost use Rattle.replay_answers.specs.Verdicts.{ending, tallied, damaged, TallyLine};
 use crate::Tally;
 use crate::lines::is_line;
 use printing::lines::put_number;
@@ -41,8 +41,8 @@ fn put_damage(page: &mut [u8], at: u64) -> usize
 
 // The line of a list that was read so far: the tally where the list is ended there, else the damage.
 pub fn put_verdict(list: &[u8], t: Tally, page: &mut [u8]) -> usize
-    requires { ⌜ Counted (now list) t ⌝ }
-    ensures { λ r. ⌜ Told (now (list .entry)) t (now (page .entry)) r (now (page .exit)) ⌝ }
+    requires { ⌜ Bounds (now list) t ⌝ }
+    ensures { λ r. ⌜ TallyLine (now (list .entry)) t (now (page .entry)) r (now (page .exit)) ⌝ }
 {
     let at = t.at;
     if is_ended(list, at, t.passed + t.failed) {

@@ -20,7 +20,7 @@ use Rattle.sound_rows.specs.Placement.{Known, ranged-clean, Stands, stan
 use Rattle.sound_rows.specs.Between.{start, Laid}
 use Rattle.sound_rows.specs.BetweenDeclarations.{toplevel-between, comments-between}
 use Rattle.standing.specs.MovedItems.{same-table}
-use Rattle.standing.specs.Told.{comments-are, declared-are}
+use Rattle.standing.specs.WholeSources.{comments-are, declared-are}
 use Rattle.standing.specs.Accepting.{whole-from, read}
 
 -- each number is below the next
@@ -51,11 +51,11 @@ module _ {src : List ℕ} (h : Accepts src) where
   rows-laid : (t : Table) → Laid (Stands src) t 0 (length src) (rowsOf t (items src (whole src)))
   rows-laid t = go (eqb (number t) 5) refl
     where
-      noted : Laid (Stands src) Table.comments 0 (length src) (rowsOf Table.comments (items src (whole src)))
-      noted = rw (comment-rows (of-comments src (whole src)) (of-toplevel src (part Rule.file (clean (whole src)) .kids) [])) (comments-laid Table.comments)
+      rising : Laid (Stands src) Table.comments 0 (length src) (rowsOf Table.comments (items src (whole src)))
+      rising = rw (comment-rows (of-comments src (whole src)) (of-toplevel src (part Rule.file (clean (whole src)) .kids) [])) (comments-laid Table.comments)
 
       go : (b : Bool) → eqb (number t) 5 ≡ b → Laid (Stands src) t 0 (length src) (rowsOf t (items src (whole src)))
-      go true e = subst (λ (u : Table). Laid (Stands src) u 0 (length src) (rowsOf u (items src (whole src)))) (sym (same-table t Table.comments e)) noted
+      go true e = subst (λ (u : Table). Laid (Stands src) u 0 (length src) (rowsOf u (items src (whole src)))) (sym (same-table t Table.comments e)) rising
       go false e = rw (declared-rows t src e) (declared-laid t)
 
 pub laid : (src e : List ℕ) (xs : List Item) → reading src ≡ accepted e xs → (t : Table) → Laid (Stands src) t 0 (length src) (rowsOf t xs)

@@ -59,78 +59,78 @@ module _ (src : List ℕ) where
       none-each Rule.constraint (λ p. constraint-number src p ++ constraint-row src p) (λ p. none-++ (none-constraint-number p) (none-constraint-row p)) w
 
 -- ---- descriptions: the names are made of nodes, and the group lies from lo to hi
-record Told (P : Known) (lo hi : ℕ) (d : Desc) : Type 0 where
+record DescParts (P : Known) (lo hi : ℕ) (d : Desc) : Type 0 where
   a′ : Made P (d .a .start) (d .a .len)
   b′ : Made P (d .b .start) (d .b .len)
   c′ : Made P (d .c .start) (d .c .len)
   group : Nodes P lo hi (d .group)
 
 module _ {P : Known} {lo hi : ℕ} where
-  told-pick : (b : Bool) {d f : Desc} → Told P lo hi d → Told P lo hi f → Told P lo hi (pick b d f)
-  told-pick true h k = h
-  told-pick false h k = k
+  parts-pick : (b : Bool) {d f : Desc} → DescParts P lo hi d → DescParts P lo hi f → DescParts P lo hi (pick b d f)
+  parts-pick true h k = h
+  parts-pick false h k = k
 
   -- so many names, and no group
   module _ (up : lo ≤ hi) (kind : ℕ) where
-    one-name : {p : Part} (na nb : Part) (ints : List Part) → Made P (p .start) (p .len) → Told P lo hi (desc kind p no no na nb ints nil)
+    one-name : {p : Part} (na nb : Part) (ints : List Part) → Made P (p .start) (p .len) → DescParts P lo hi (desc kind p no no na nb ints nil)
     one-name na nb ints h = record { a′ = h; b′ = nothing; c′ = nothing; group = bare up }
 
-    no-name : (na nb : Part) (ints : List Part) → Told P lo hi (desc kind no no no na nb ints nil)
+    no-name : (na nb : Part) (ints : List Part) → DescParts P lo hi (desc kind no no no na nb ints nil)
     no-name na nb ints = record { a′ = nothing; b′ = nothing; c′ = nothing; group = bare up }
 
     two-names : {p q : Part} (na nb : Part) (ints : List Part) → Made P (p .start) (p .len) → Made P (q .start) (q .len)
-        → Told P lo hi (desc kind p q no na nb ints nil)
+        → DescParts P lo hi (desc kind p q no na nb ints nil)
     two-names na nb ints h k = record { a′ = h; b′ = k; c′ = nothing; group = bare up }
 
-    told-sized : {p : Part} → Made P (p .start) (p .len) → Told P lo hi (sized kind p)
-    told-sized {p} h = let n = part Rule.integer (p .next) in one-name n no (n ∷ []) h
+    parts-sized : {p : Part} → Made P (p .start) (p .len) → DescParts P lo hi (sized kind p)
+    parts-sized {p} h = let n = part Rule.integer (p .next) in one-name n no (n ∷ []) h
 
-  told-fixed : {w : Forest} → Nodes P lo hi w → Told P lo hi (fixed w)
-  told-fixed {w} g =
+  parts-fixed : {w : Forest} → Nodes P lo hi w → DescParts P lo hi (fixed w)
+  parts-fixed {w} g =
       let v = part Rule.integer w in
       let n = part Rule.integer (v .next) in
       let t = slot Rule.identifier g in
-      told-pick (v .found) (no-name (upward g) 8 n v (v ∷ n ∷ [])) (two-names (upward g) 9 no no [] (slot-then Rule.identifier t .made) (t .made))
+      parts-pick (v .found) (no-name (upward g) 8 n v (v ∷ n ∷ [])) (two-names (upward g) 9 no no [] (slot-then Rule.identifier t .made) (t .made))
 
-  told-array : {p : Part} → lo ≤ hi → Slot P lo hi p → Told P lo hi (array p)
-  told-array {p} up id =
+  parts-array : {p : Part} → lo ≤ hi → Slot P lo hi p → DescParts P lo hi (array p)
+  parts-array {p} up id =
       let t = slot-then Rule.identifier id in
       let after = slot-or Rule.integer t in
       record { a′ = id .made; b′ = t .made; c′ = slot-then Rule.size-modifier after .made; group = bare up }
 
-  told-describe : (r : Rule) {w : Forest} → Nodes P lo hi w → Told P lo hi (describe r w)
+  parts-describe : (r : Rule) {w : Forest} → Nodes P lo hi w → DescParts P lo hi (describe r w)
   unfolding describe
-  told-describe r {w} g =
+  parts-describe r {w} g =
       let up : lo ≤ hi = upward g in
       let id = slot Rule.identifier g in
       let list = slot-then Rule.constraint-list id in
       let n = part Rule.integer w in
-      told-pick (is Rule.checksum-field r) (one-name up 1 no no [] (id .made))
-      (told-pick (is Rule.padding-field r) (no-name up 2 n no (n ∷ []))
-      (told-pick (is Rule.size-field r) (told-sized up 3 (slot-or Rule.body-identifier (slot-or Rule.payload-identifier id) .made))
-      (told-pick (is Rule.count-field r) (told-sized up 4 (id .made))
-      (told-pick (is Rule.elementsize-field r) (told-sized up 5 (id .made))
-      (told-pick (is Rule.body-field r) (no-name up 6 no no [])
-      (told-pick (is Rule.payload-field r) (record { a′ = nothing; b′ = nothing; c′ = slot Rule.size-modifier g .made; group = bare up })
-      (told-pick (is Rule.fixed-field r) (told-fixed g)
-      (told-pick (is Rule.reserved-field r) (no-name up 10 n no (n ∷ []))
-      (told-pick (is Rule.array-field r) (told-array up id)
-      (told-pick (is Rule.scalar-field r) (told-sized up 12 (id .made))
-      (told-pick (is Rule.typedef-field r) (two-names up 13 no no [] (id .made) (slot-then Rule.identifier id .made))
+      parts-pick (is Rule.checksum-field r) (one-name up 1 no no [] (id .made))
+      (parts-pick (is Rule.padding-field r) (no-name up 2 n no (n ∷ []))
+      (parts-pick (is Rule.size-field r) (parts-sized up 3 (slot-or Rule.body-identifier (slot-or Rule.payload-identifier id) .made))
+      (parts-pick (is Rule.count-field r) (parts-sized up 4 (id .made))
+      (parts-pick (is Rule.elementsize-field r) (parts-sized up 5 (id .made))
+      (parts-pick (is Rule.body-field r) (no-name up 6 no no [])
+      (parts-pick (is Rule.payload-field r) (record { a′ = nothing; b′ = nothing; c′ = slot Rule.size-modifier g .made; group = bare up })
+      (parts-pick (is Rule.fixed-field r) (parts-fixed g)
+      (parts-pick (is Rule.reserved-field r) (no-name up 10 n no (n ∷ []))
+      (parts-pick (is Rule.array-field r) (parts-array up id)
+      (parts-pick (is Rule.scalar-field r) (parts-sized up 12 (id .made))
+      (parts-pick (is Rule.typedef-field r) (two-names up 13 no no [] (id .made) (slot-then Rule.identifier id .made))
       (record { a′ = id .made; b′ = nothing; c′ = nothing; group = higher (id .low) (wider (upward (list .next)) (list .kids)) }))))))))))))
 
 -- a field's children: the description, and the condition behind it
 record Parted (P : Known) (lo hi : ℕ) (kids : Forest) : Type 0 where
   mid : ℕ
   below : mid ≤ hi
-  told : Told P lo mid (described kids)
+  parts : DescParts P lo mid (described kids)
   condition : Nodes P mid hi (following kids)
 
 parted : {P : Known} {lo hi : ℕ} {kids : Forest} → Nodes P lo hi kids → Parted P lo hi kids
-parted {lo = lo} {hi} (bare h) = let z : hi ≤ hi = omega arith in record { mid = hi; below = z; told = no-name h 0 no no []; condition = bare z }
+parted {lo = lo} {hi} (bare h) = let z : hi ≤ hi = omega arith in record { mid = hi; below = z; parts = no-name h 0 no no []; condition = bare z }
 parted (grown {r = r} {s} {l} {kids} f h i j) =
-    let d = told-describe r i in
-    record { mid = s + l; below = upward j; told = record { a′ = d .a′; b′ = d .b′; c′ = d .c′; group = higher h (d .group) }; condition = j }
+    let d = parts-describe r i in
+    record { mid = s + l; below = upward j; parts = record { a′ = d .a′; b′ = d .b′; c′ = d .c′; group = higher h (d .group) }; condition = j }
 
 module _ (src : List ℕ) {P : Known} {t : Table} where
   -- a condition's items, where there is one
@@ -158,12 +158,12 @@ module _ (src : List ℕ) {P : Known} {t : Table} where
       let condition-row = if-there if (λ p. constraint-row src p) up (λ z.
       between-in (at .there z .0) (omega (arith, at .there z .1, edge))
       (constraint-row-between src if (found-node Rule.constraint (k .condition) z) (omega (arith, at .there z .1, edge, e)))) in
-      let group = between-++ (between-numbers src (d .ints) low) (constraints-between src (k .told .group) (omega (arith, up, e))) in
+      let group = between-++ (between-numbers src (d .ints) low) (constraints-between src (k .parts .group) (omega (arith, up, e))) in
       between-last Table.fields _ (between-++ (between-++ condition-number group) condition-row)
       (none-++ (none-++ (none-pick (if .found) (none-constraint-number src if)) (none-++ (none-numbers src (d .ints)) (none-constraints src (d .group))))
       (none-pick (if .found) (none-constraint-row src if)) .none)
       (omega (arith, o)) (omega (arith, o, some-fit f))
-      (k .told .a′, (k .told .b′, (k .told .c′, tt)))
+      (k .parts .a′, (k .parts .b′, (k .parts .c′, tt)))
 
   pub fields-between : (xs : List Item) {lo hi : ℕ} {w : Forest} → Nodes P lo hi w → hi ≤ length src → Between P t lo hi (parse-field-list src xs w)
   unfolding parse-field-list

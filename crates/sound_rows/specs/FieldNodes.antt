@@ -13,7 +13,7 @@ use Rattle.meaning.specs.Rows.{field-words}
 use Rattle.meaning.specs.Walk.{Part, part, orPart, place, name, Desc, no, fixed, array, describe, described}
 use Rattle.meaning.specs.Feeding.{damaged}
 use Rattle.text.specs.ChoiceLaws.{never}
-use Rattle.sound_rows.specs.Notes.{Note, _has_, _lists_, Told, Noted, only, noted, noted-clean}
+use Rattle.sound_rows.specs.Notes.{Note, _has_, _lists_, RuleNotes, AllNotes, only, all-notes, notes-clean}
 use Rattle.locality.specs.Holding.{allowed}
 use Rattle.standing.specs.Sources.{core}
 use Rattle.standing.specs.Files.{Whole, to-core}
@@ -55,11 +55,11 @@ notes =
     ∷ []
 
 -- computed from the grammar
-pub whole-noted : {s : List ℕ} {w : Forest} → Whole s w → Noted rules notes (clean w)
+pub whole-notes : {s : List ℕ} {w : Forest} → Whole s w → AllNotes rules notes (clean w)
 unfolding allowed every only grammar
-whole-noted {s} a =
+whole-notes {s} a =
     let c = to-core a in
-    rw (c .places) (noted-clean notes 0 (c .bare) (noted notes core refl s (length s) (c .bare) (c .takes)))
+    rw (c .places) (notes-clean notes 0 (c .bare) (all-notes notes core refl s (length s) (c .bare) (c .takes)))
 
 -- ---- the walk's parts, over names
 found-behind : (r q : Rule) (w : Forest) → part r (part q w .next) .found ≡ starting r (past q (rules w))
@@ -112,7 +112,7 @@ fine-array p = record { is = go (array p .na .found) (array p .nb .found) }
     go false true = refl
     go false false = refl
 
-fine-describe : (r : Rule) (w : Forest) → Told notes r (rules w) → Fine (describe r w)
+fine-describe : (r : Rule) (w : Forest) → RuleNotes notes r (rules w) → Fine (describe r w)
 unfolding describe
 fine-describe r w h =
     let padding = h .1 .1 .0 in
@@ -137,6 +137,6 @@ fine-describe r w h =
     (fine-pick (is Rule.typedef-field r) (λ e. record { is = refl })
     (record { is = refl }))))))))))))
 
-pub fine : (w : Forest) → some (rules w) ≡ true → Noted rules notes w → Fine (described w)
+pub fine : (w : Forest) → some (rules w) ≡ true → AllNotes rules notes w → Fine (described w)
 fine nil e h = never e
 fine (tree r s l k more) e h = fine-describe r k (h .0)

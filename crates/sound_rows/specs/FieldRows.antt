@@ -1,4 +1,4 @@
--- No field row of an accepted source is damaged: the walk over noted nodes, rule by rule.
+-- No field row of an accepted source is damaged: the walk over nodes with their notes, rule by rule.
 use Prim.Native.Nat.{ℕ, zero, suc}
 use mathlib.Core.Path.{_≡_, refl, sym, subst}
 use mathlib.Core.Bool.{Bool, true, false}
@@ -13,9 +13,9 @@ use Rattle.reading.specs.Matched.{whole}
 use Rattle.reading.specs.Accepts.{Accepts}
 use Rattle.text.specs.ChoiceLaws.{both-is}
 use Rattle.sound_rows.specs.EveryRow.{Every, none, a-row, Free, every-++, every-pick, every-each, of-comments, of-number, of-numbers, of-constraint-number, of-constraint-row, of-constraints, of-enum-tag}
-use Rattle.sound_rows.specs.Notes.{all, Noted, noted-next, noted-following, noted-kids}
-use Rattle.sound_rows.specs.FieldNodes.{some, notes, whole-noted, fine}
-use Rattle.standing.specs.Told.{declared-are}
+use Rattle.sound_rows.specs.Notes.{all, AllNotes, notes-next, notes-following, notes-kids}
+use Rattle.sound_rows.specs.FieldNodes.{some, notes, whole-notes, fine}
+use Rattle.standing.specs.WholeSources.{declared-are}
 use Rattle.standing.specs.Accepting.{whole-from}
 use Rattle.standing.specs.Kinds.{rules}
 use Rattle.reading.specs.Sorts as sorts
@@ -32,7 +32,7 @@ free : Free Sound
 free = record { tags = λ ws. tt; constraints = λ ws. tt; comments = λ ws. tt }
 
 -- the children of a list of fields are fields
-listed : (w : Forest) → Noted rules notes w → all (is Rule.field) (rules (part Rule.field-list w .kids)) ≡ true
+listed : (w : Forest) → AllNotes rules notes w → all (is Rule.field) (rules (part Rule.field-list w .kids)) ≡ true
 listed nil h = refl
 listed (tree q s l k more) h = go (is Rule.field-list q) (h .0 .0)
   where
@@ -42,7 +42,7 @@ listed (tree q s l k more) h = go (is Rule.field-list q) (h .0 .0)
     go false e = refl
 
 module _ (src : List ℕ) where
-  of-field : (xs : List Item) (p : Part) → some (rules (p .kids)) ≡ true → Noted rules notes (p .kids) → Every Sound (parse-field src xs p)
+  of-field : (xs : List Item) (p : Part) → some (rules (p .kids)) ≡ true → AllNotes rules notes (p .kids) → Every Sound (parse-field src xs p)
   unfolding parse-field
   of-field xs p e h =
       let d = described (p .kids) in
@@ -54,7 +54,7 @@ module _ (src : List ℕ) where
       (every-pick (if .found) (of-constraint-row free src if)))
       (a-row (fine (p .kids) e h .is) none)
 
-  of-fields : (w : Forest) (xs : List Item) → all (is Rule.field) (rules w) ≡ true → Noted rules notes w → Every Sound (parse-field-list src xs w)
+  of-fields : (w : Forest) (xs : List Item) → all (is Rule.field) (rules w) ≡ true → AllNotes rules notes w → Every Sound (parse-field-list src xs w)
   unfolding parse-field-list
   of-fields nil xs e h = none
   of-fields (tree r s l k more) xs e h =
@@ -62,7 +62,7 @@ module _ (src : List ℕ) where
       every-++ (of-field xs (node s l k more) (h .0 .1 .0 (i .0)) (h .1 .0))
       (of-fields more (xs ++ parse-field src xs (node s l k more)) (i .1) (h .1 .1))
 
-  of-declaration : (xs : List Item) (kind : ℕ) (p : Part) → Noted rules notes (p .kids) → Every Sound (parse-declaration src xs kind p)
+  of-declaration : (xs : List Item) (kind : ℕ) (p : Part) → AllNotes rules notes (p .kids) → Every Sound (parse-declaration src xs kind p)
   unfolding parse-declaration
   of-declaration xs kind p h =
       let id = part Rule.identifier (following (p .kids)) in
@@ -72,22 +72,22 @@ module _ (src : List ℕ) where
       let header = part Rule.constraint-list (function .next) in
       let tags = part Rule.enum-tag-list (header .next) in
       let cs = parse-constraint-list src (header .kids) in
-      let left : Noted rules notes (tags .next) =
-      noted-next notes Rule.enum-tag-list (header .next) (noted-next notes Rule.constraint-list (function .next)
-      (noted-next notes Rule.string (width .next) (noted-next notes Rule.integer (parent .next)
-      (noted-next notes Rule.identifier (id .next) (noted-next notes Rule.identifier (following (p .kids)) (noted-following notes (p .kids) h)))))) in
+      let left : AllNotes rules notes (tags .next) =
+      notes-next notes Rule.enum-tag-list (header .next) (notes-next notes Rule.constraint-list (function .next)
+      (notes-next notes Rule.string (width .next) (notes-next notes Rule.integer (parent .next)
+      (notes-next notes Rule.identifier (id .next) (notes-next notes Rule.identifier (following (p .kids)) (notes-following notes (p .kids) h)))))) in
       every-++
       (every-++
       (every-++ (every-++ (of-number free src width) (of-constraints free src (header .kids)))
       (every-each Rule.enum-tag (λ q. parse-enum-tag src q) (of-enum-tag free src) (tags .kids)))
-      (of-fields (part Rule.field-list (tags .next) .kids) (xs ++ cs) (listed (tags .next) left) (noted-kids notes Rule.field-list (tags .next) left)))
+      (of-fields (part Rule.field-list (tags .next) .kids) (xs ++ cs) (listed (tags .next) left) (notes-kids notes Rule.field-list (tags .next) left)))
       (a-row tt none)
 
-  of-kind : (xs : List Item) (k : ℕ) (p : Part) → Noted rules notes (p .kids) → Every Sound (parse-kind src xs k p)
+  of-kind : (xs : List Item) (k : ℕ) (p : Part) → AllNotes rules notes (p .kids) → Every Sound (parse-kind src xs k p)
   of-kind xs zero p h = none
   of-kind xs (suc k) p h = of-declaration xs (suc k) p h
 
-  of-toplevel : (w : Forest) (xs : List Item) → Noted rules notes w → Every Sound (parse-toplevel src xs w)
+  of-toplevel : (w : Forest) (xs : List Item) → AllNotes rules notes w → Every Sound (parse-toplevel src xs w)
   unfolding parse-toplevel
   of-toplevel nil xs h = none
   of-toplevel (tree r s l k more) xs h =
@@ -98,4 +98,4 @@ pub sound-fields : {src : List ℕ} → Accepts src → Every Sound (items src (
 sound-fields {src} a =
     let x = whole-from a in
     every-++ (of-comments free (sorts.of-comments src (whole src)))
-    (subst (Every Sound) (sym (declared-are (x .1))) (of-toplevel src (clean (x .0)) [] (whole-noted (x .1))))
+    (subst (Every Sound) (sym (declared-are (x .1))) (of-toplevel src (clean (x .0)) [] (whole-notes (x .1))))

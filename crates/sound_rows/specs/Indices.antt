@@ -24,7 +24,7 @@ use Rattle.sound_rows.specs.EveryRow.{Every, none, a-row, Free, every-++
 use Rattle.standing.specs.Kinds.{tags-part, Kinded}
 use Rattle.standing.specs.Files.{to-core}
 use Rattle.standing.specs.MovedDeclarations.{kind-is}
-use Rattle.standing.specs.Told.{declared-are}
+use Rattle.standing.specs.WholeSources.{declared-are}
 use Rattle.standing.specs.Accepting.{whole-from, read}
 use Rattle.reading.specs.Sorts as sorts
 

@@ -51,12 +51,12 @@ module _ (src : List ℕ) where
   abbrev pub Within : ℕ → ℕ → Type 0
   Within o n = (o + n ≤ length src) × (name-number src o n ≡ 0)
 
-  name-told : (o n : ℕ) → Name src o n → Within o n
-  name-told o n x = let h = name-within o n x in (h, rw (inside o n h))
+  name-inside : (o n : ℕ) → Name src o n → Within o n
+  name-inside o n x = let h = name-within o n x in (h, rw (inside o n h))
 
   names-within : (ws is : List ℕ) → Names (Name src) ws is → Names Within ws is
   names-within ws [] h = tt
-  names-within ws (i ∷ is) h = (name-told (getD ws i 0) (getD ws (i + 1) 0) (h .0), names-within ws is (h .1))
+  names-within ws (i ∷ is) h = (name-inside (getD ws i 0) (getD ws (i + 1) 0) (h .0), names-within ws is (h .1))
 
   each-within : (t : Table) (rs : List (List ℕ)) → Each (Named (Name src) t) rs → Each (Named Within t) rs
   each-within t [] h = tt

@@ -85,74 +85,75 @@ abbrev pub _lists_ : Rule → Rule → Note
 r lists q = record { of = r; test = all (is q); by = only (is q); sound = only-passes (is q) }
 
 -- a rule's children, by each note
-abbrev pub Told : List Note → Rule → List Rule → Type 0
-Told [] r x = Unit {0}
-Told (n ∷ ns) r x = (is (n .of) r ≡ true → n .test x ≡ true) × Told ns r x
+abbrev pub RuleNotes : List Note → Rule → List Rule → Type 0
+RuleNotes [] r x = Unit {0}
+RuleNotes (n ∷ ns) r x = (is (n .of) r ≡ true → n .test x ≡ true) × RuleNotes ns r x
 
 -- so of all nodes, whose children's rules are listed by g
-abbrev pub Noted : (Forest → List Rule) → List Note → Forest → Type 0
-Noted g ns nil = Unit {0}
-Noted g ns (tree r s l k more) = Told ns r (g k) × (Noted g ns k × Noted g ns more)
+abbrev pub AllNotes : (Forest → List Rule) → List Note → Forest → Type 0
+AllNotes g ns nil = Unit {0}
+AllNotes g ns (tree r s l k more) = RuleNotes ns r (g k) × (AllNotes g ns k × AllNotes g ns more)
 
-abbrev pub noted-rule : List Note → Rule → Peg → Bool
-noted-rule [] r p = true
-noted-rule (n ∷ ns) r p = both (pick (is (n .of) r) (n .by p) true) (noted-rule ns r p)
+abbrev pub tests-rule : List Note → Rule → Peg → Bool
+tests-rule [] r p = true
+tests-rule (n ∷ ns) r p = both (pick (is (n .of) r) (n .by p) true) (tests-rule ns r p)
 
-told : (ns : List Note) (r : Rule) (p : Peg) → noted-rule ns r p ≡ true → (s : List ℕ) (n : ℕ) (f : Forest) → plain p s ≡ took n f → Told ns r (names f)
-told [] r p e s n f q = tt
-told (m ∷ ms) r p e s n f q =
-    let i = both-is (pick (is (m .of) r) (m .by p) true) (noted-rule ms r p) e in
-    (λ z. subst (Passes (m .test)) q (m .sound p (rw z at (i .0)) s), told ms r p (i .1) s n f q)
+rule-notes : (ns : List Note) (r : Rule) (p : Peg) → tests-rule ns r p ≡ true → (s : List ℕ) (n : ℕ) (f : Forest) → plain p s ≡ took n f
+    → RuleNotes ns r (names f)
+rule-notes [] r p e s n f q = tt
+rule-notes (m ∷ ms) r p e s n f q =
+    let i = both-is (pick (is (m .of) r) (m .by p) true) (tests-rule ms r p) e in
+    (λ z. subst (Passes (m .test)) q (m .sound p (rw z at (i .0)) s), rule-notes ms r p (i .1) s n f q)
 
 module _ (ns : List Note) where
-  noted-⊕ : (f g : Forest) → Noted names ns f → Noted names ns g → Noted names ns (f ⊕ g)
-  noted-⊕ nil g h k = k
-  noted-⊕ (tree r s l c more) g h k = (h .0, (h .1 .0, noted-⊕ more g (h .1 .1) k))
+  notes-⊕ : (f g : Forest) → AllNotes names ns f → AllNotes names ns g → AllNotes names ns (f ⊕ g)
+  notes-⊕ nil g h k = k
+  notes-⊕ (tree r s l c more) g h k = (h .0, (h .1 .0, notes-⊕ more g (h .1 .1) k))
 
-  noted-shift : (n : ℕ) (f : Forest) → Noted names ns f → Noted names ns (shift n f)
-  noted-shift n nil h = tt
-  noted-shift n (tree r s l c more) h = (h .0, (h .1 .0, noted-shift n more (h .1 .1)))
+  notes-shift : (n : ℕ) (f : Forest) → AllNotes names ns f → AllNotes names ns (shift n f)
+  notes-shift n nil h = tt
+  notes-shift n (tree r s l c more) h = (h .0, (h .1 .0, notes-shift n more (h .1 .1)))
 
-  law : NodeLaw (λ n f. Noted names ns f) (noted-rule ns)
+  law : NodeLaw (λ n f. AllNotes names ns f) (tests-rule ns)
   law = record {
     none = λ n. tt;
-    two = λ n m f g h k. noted-⊕ f (shift n g) h (noted-shift n g k);
-    node = λ r p e s n f q h. (told ns r p e s n f q, (h, tt));
+    two = λ n m f g h k. notes-⊕ f (shift n g) h (notes-shift n g k);
+    node = λ r p e s n f q h. (rule-notes ns r p e s n f q, (h, tt));
   }
 
-  pub noted : (p : Peg) → allowed (noted-rule ns) p ≡ true → (s : List ℕ) (n : ℕ) (f : Forest) → plain p s ≡ took n f → Noted names ns f
-  noted = nodes-hold law
+  pub all-notes : (p : Peg) → allowed (tests-rule ns) p ≡ true → (s : List ℕ) (n : ℕ) (f : Forest) → plain p s ≡ took n f → AllNotes names ns f
+  all-notes = nodes-hold law
 
   -- the nodes placed in a source, without comments
-  pub noted-clean : (o : ℕ) (f : Forest) → Noted names ns f → Noted rules ns (clean (placed o f))
-  noted-clean o nil h = tt
-  noted-clean o (tree r s l k more) h = go (is Rule.COMMENT r) (noted-clean (o + s) k (h .1 .0)) (noted-clean o more (h .1 .1))
+  pub notes-clean : (o : ℕ) (f : Forest) → AllNotes names ns f → AllNotes rules ns (clean (placed o f))
+  notes-clean o nil h = tt
+  notes-clean o (tree r s l k more) h = go (is Rule.COMMENT r) (notes-clean (o + s) k (h .1 .0)) (notes-clean o more (h .1 .1))
     where
-      here : Told ns r (rules (clean (placed (o + s) k)))
+      here : RuleNotes ns r (rules (clean (placed (o + s) k)))
       here = rw (rules-clean (placed (o + s) k), names-placed (o + s) k) (h .0)
 
-      go : (b : Bool) → Noted rules ns (clean (placed (o + s) k)) → Noted rules ns (clean (placed o more))
-          → Noted rules ns (pick b (clean (placed o more)) (tree r (o + s) l (clean (placed (o + s) k)) (clean (placed o more))))
+      go : (b : Bool) → AllNotes rules ns (clean (placed (o + s) k)) → AllNotes rules ns (clean (placed o more))
+          → AllNotes rules ns (pick b (clean (placed o more)) (tree r (o + s) l (clean (placed (o + s) k)) (clean (placed o more))))
       go true a q = q
       go false a q = (here, (a, q))
 
   -- ---- the walk's steps keep them
-  pub noted-next : (r : Rule) (w : Forest) → Noted rules ns w → Noted rules ns (part r w .next)
-  noted-next r nil h = tt
-  noted-next r (tree q s l k more) h = go (is r q)
+  pub notes-next : (r : Rule) (w : Forest) → AllNotes rules ns w → AllNotes rules ns (part r w .next)
+  notes-next r nil h = tt
+  notes-next r (tree q s l k more) h = go (is r q)
     where
-      go : (b : Bool) → Noted rules ns (pick b (node s l k more) (absent (tree q s l k more)) .next)
+      go : (b : Bool) → AllNotes rules ns (pick b (node s l k more) (absent (tree q s l k more)) .next)
       go true = h .1 .1
       go false = h
 
-  pub noted-following : (w : Forest) → Noted rules ns w → Noted rules ns (following w)
-  noted-following nil h = tt
-  noted-following (tree q s l k more) h = h .1 .1
+  pub notes-following : (w : Forest) → AllNotes rules ns w → AllNotes rules ns (following w)
+  notes-following nil h = tt
+  notes-following (tree q s l k more) h = h .1 .1
 
-  pub noted-kids : (r : Rule) (w : Forest) → Noted rules ns w → Noted rules ns (part r w .kids)
-  noted-kids r nil h = tt
-  noted-kids r (tree q s l k more) h = go (is r q)
+  pub notes-kids : (r : Rule) (w : Forest) → AllNotes rules ns w → AllNotes rules ns (part r w .kids)
+  notes-kids r nil h = tt
+  notes-kids r (tree q s l k more) h = go (is r q)
     where
-      go : (b : Bool) → Noted rules ns (pick b (node s l k more) (absent (tree q s l k more)) .kids)
+      go : (b : Bool) → AllNotes rules ns (pick b (node s l k more) (absent (tree q s l k more)) .kids)
       go true = h .1 .0
       go false = tt

@@ -23,7 +23,7 @@ use Rattle.standing.specs.Sources.{core}
 use Rattle.standing.specs.Names.{names, names-placed, every, Passes, passes}
 use Rattle.standing.specs.Kinds.{starting, rules, rules-clean}
 use Rattle.standing.specs.Files.{eoi, Core, Whole, to-core}
-use Rattle.standing.specs.Told.{nodes-are}
+use Rattle.standing.specs.WholeSources.{nodes-are}
 
 -- ---- what is asked of a node, by its rule's number: how many bytes at the least, and the rules of its children
 abbrev pub bytes-of : ℕ → ℕ

@@ -98,13 +98,13 @@ module _ (s u : List ℕ) {h : List ℕ} (l : KeywordLine h) (l₁ l₂ l₃ : L
         number = ap (λ (x : Outcome). x .answer .number) e₃ ∙ accepted-if (s ++ 10 ∷ u) l₃ fits;
         endianness = c .endianness ∙ r .words ∙ sym (a .endianness);
         counts = λ t. c .counts t ∙ ap (count t) (r .items) ∙ sum t;
-        rows = λ t. c .rows t ∙ ap (rowsOf t) (r .items) ∙ d .rows t ∙ told t (a .counts) (a .rows t) (b .rows t);
+        rows = λ t. c .rows t ∙ ap (rowsOf t) (r .items) ∙ d .rows t ∙ by-parts t (a .counts) (a .rows t) (b .rows t);
         past = λ t. ap₂ (λ (k : ℕ) (x : Outcome). drop (k * size t) (lent t (x .left))) (c .counts t) e₃
             ∙ words-past (s ++ 10 ∷ u) l₃ fits t ∙ ap (λ (k : ℕ). drop (k * size t) (lent t l₃)) (sym (c .counts t));
       }
     where
-      told : (t : Table) {x y : Table → ℕ} {p q p′ q′ : List (List ℕ)} → ((t : Table) → x t ≡ y t) → p ≡ p′ → q ≡ q′
+      by-parts : (t : Table) {x y : Table → ℕ} {p q p′ q′ : List (List ℕ)} → ((t : Table) → x t ≡ y t) → p ≡ p′ → q ≡ q′
           → p′ ++ moved-rows (appended s h y) t q′ ≡ p ++ moved-rows (appended s h x) t q
-      told t {x} {y} {p} {q} i j k =
+      by-parts t {x} {y} {p} {q} i j k =
           ap₂ (λ (v w : List (List ℕ)). v ++ moved-rows (appended s h y) t w) (sym j) (sym k)
           ∙ ap (λ (f : Table → ℕ). p ++ moved-rows (appended s h f) t q) (sym (fun-ext i))

@@ -84,13 +84,13 @@ full s F v e = go (eval file 0 s) refl (subst (λ (x : Full). Like 0 x (plain fi
     here : 0 + length s ≡ length s
     here = omega arith
 
-    said : plain file s ≡ took (length s) (tree Rule.file 0 (length s) (F ⊕ eoi (length s)) nil)
-    said = file-is s ∙ ap (λ o. ruleE Rule.file (closed o)) e
+    whole-file : plain file s ≡ took (length s) (tree Rule.file 0 (length s) (F ⊕ eoi (length s)) nil)
+    whole-file = file-is s ∙ ap (λ o. ruleE Rule.file (closed o)) e
 
     go : (x : Full) → eval file 0 s ≡ x → Like 0 x (plain file s) → Whole s (placed 0 F)
-    go (failed f) q h = absurd (subst (Like 0 (failed f)) said h)
+    go (failed f) q h = absurd (subst (Like 0 (failed f)) whole-file h)
     go (held n f w) q h =
-        let k = subst (Like 0 (held n f w)) said h in
+        let k = subst (Like 0 (held n f w)) whole-file h in
         record {
           good = v;
           mark = f;
@@ -134,8 +134,8 @@ core-of s h v = go (plain core s) refl (core-final s) (subst (λ (x : Full). Lik
     go missed e d k = absurd (hits (eval file 0 s) h (subst (Like 0 (eval file 0 s)) (file-is s ∙ ap (λ o. ruleE Rule.file (closed o)) e) k))
     go (took n F) e d k = (F, e ∙ ap (λ m. took m F) d)
 
-core-held : (s : List ℕ) (F : Forest) → plain core s ≡ took (length s) F → Held 0 (length s) (placed 0 F)
-core-held s F e = wider 0 (0 + length s) 0 (length s) (placed 0 F) (omega arith) (omega arith) (inside core s (length s) F e 0)
+core-inside : (s : List ℕ) (F : Forest) → plain core s ≡ took (length s) F → Held 0 (length s) (placed 0 F)
+core-inside s F e = wider 0 (0 + length s) 0 (length s) (placed 0 F) (omega arith) (omega arith) (inside core s (length s) F e 0)
 
 core-kinds : (s : List ℕ) (F : Forest) → plain core s ≡ took (length s) F → Kinded (clean (placed 0 F))
 unfolding allowed every rules
@@ -158,7 +158,7 @@ to-core {s} {w} h =
       bare = x .0;
       takes = x .1;
       places = p;
-      holds = rw p (core-held s (x .0) (x .1));
+      holds = rw p (core-inside s (x .0) (x .1));
       kinds = rw p (core-kinds s (x .0) (x .1));
       long = rw p
           (core-long s (x .0) (x .1));

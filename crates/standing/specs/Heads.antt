@@ -29,7 +29,7 @@ use Rattle.standing.specs.MovedParts.{Grove, bare, grown}
 use Rattle.standing.specs.MovedDeclarations.{grove-clean}
 use Rattle.standing.specs.Carriers.{grove-still}
 use Rattle.grammar.specs.Nodes.{clean-⊕}
-use Rattle.standing.specs.Told.{nodes-are}
+use Rattle.standing.specs.WholeSources.{nodes-are}
 
 abbrev here : Rule
 here = Rule.endianness-declaration
@@ -75,9 +75,9 @@ part-end e (tree q s l k more) h = go (is here q)
     go true = h .1 .0
     go false = omega arith
 
-held-of : {a e k : ℕ} {v w : Forest} → Grove a e k v w → Held a e w
-held-of bare = tt
-held-of (grown x y i j) = (x, (y, (held-of i, held-of j)))
+grove-inside : {a e k : ℕ} {v w : Forest} → Grove a e k v w → Held a e w
+grove-inside bare = tt
+grove-inside (grown x y i j) = (x, (y, (grove-inside i, grove-inside j)))
 
 -- ---- the words of the line
 abbrev sign : List ℕ → ℕ → ℕ → List ℕ
@@ -103,7 +103,7 @@ module _ {s : List ℕ} {w : Forest} (h : Whole s w) where
       ap (endianness s) (nodes-are h) ∙ ap₂ (sign s) (x .start) (x .len)
 
   pub line-inside : part here (clean w) .start + part here (clean w) .len ≤ length s
-  line-inside = part-end (length s) (clean w) (held-of (grove-clean (grove-still 0 (length s) w (to-core h .holds))))
+  line-inside = part-end (length s) (clean w) (grove-inside (grove-clean (grove-still 0 (length s) w (to-core h .holds))))
 
 -- what is added behind does not change the endianness nor its place
 pub endianness-stands : {s : List ℕ} (t : List ℕ) {w : Forest} (x : Forest) → Whole s w → Whole (s ++ t) (w ⊕ x)

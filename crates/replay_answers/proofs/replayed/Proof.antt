@@ -2,13 +2,13 @@
 use Prim.Native.Nat.{_-_}
 use lib.ListN.{length}
 use borrow.Author.Needs.{needs}
-use Rattle.replay_answers.specs.Tallies.{Counted, Replayed, start}
+use Rattle.replay_answers.specs.Tallies.{Bounds, Replayed, start}
 use Rattle.replay_answers.proofs.Laws.{started, joined}
 use Rattle.replay_answers.proofs.replayed.Statement.{statement}
 use Rattle.replay_answers.proofs.replayed.Tie as tie
 
 abbrev Inv-loop : tie.InvT-loop
-Inv-loop list t₀ t = Replayed list (start list) t × Counted list t
+Inv-loop list t₀ t = Replayed list (start list) t × Bounds list t
 
 abbrev μ-loop : tie.MeasureT-loop
 μ-loop list t₀ t = length list - t .at
