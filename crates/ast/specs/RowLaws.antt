@@ -107,12 +107,17 @@ put-after size k row t n e =
     put-cases (λ (x : List ℕ). drop (k * size + size + n) x ≡ drop (k * size + size + n) t) size k row t
     (λ l.
     let q : length (take (k * size) t ++ row) ≡ k * size + size = length-head size k row t e l in
-    rw (← drop-drop n (k * size + size) (take (k * size) t ++ row ++ drop (k * size + size) t), drop-at (take (k * size) t ++ row) (drop (k * size + size) t) (k * size + size) q)
+    rw (
+      ← drop-drop n (k * size + size) (take (k * size) t ++ row ++ drop (k * size + size) t),
+      drop-at (take (k * size) t ++ row) (drop (k * size + size) t)
+          (k * size + size) q,
+    )
     (drop-drop n (k * size + size) t))
     refl
 
 -- the row is where it was put
-pub put-there : (size k : ℕ) (row t : List ℕ) → length row ≡ size → k * size + size ≤ length t → take (k * size + size) (put size k row t) ≡ take (k * size) t ++ row
+pub put-there : (size k : ℕ) (row t : List ℕ) → length row ≡ size → k * size + size ≤ length t
+    → take (k * size + size) (put size k row t) ≡ take (k * size) t ++ row
 put-there size k row t e l =
     rw (put-fits size k row t l)
     (take-at (take (k * size) t ++ row) (drop (k * size + size) t) (k * size + size) (length-head size k row t e l))
@@ -124,7 +129,8 @@ put-word-before size k row t j e h =
     ∙ ap (λ (x : List ℕ). getD x j 0) (put-before size k row t (suc j) e (omega arith))
     ∙ getD-take (suc j) t j 0 (omega arith)
 
-pub put-word : (size k : ℕ) (row t : List ℕ) (i : ℕ) → length row ≡ size → k * size + size ≤ length t → i < size → getD (put size k row t) (k * size + i) 0 ≡ getD row i 0
+pub put-word : (size k : ℕ) (row t : List ℕ) (i : ℕ) → length row ≡ size → k * size + size ≤ length t → i < size
+    → getD (put size k row t) (k * size + i) 0 ≡ getD row i 0
 put-word size k row t i e l h =
     sym (getD-take (k * size + size) (put size k row t) (k * size + i) 0 (omega arith))
     ∙ ap (λ (x : List ℕ). getD x (k * size + i) 0) (put-there size k row t e l)
@@ -147,7 +153,8 @@ puts-flat size k (r ∷ rs) t z h =
     let t' : List ℕ = put size k r t in
     let l' : (k + 1 + n) * size ≤ length t' = rw (e2, length-put size k r t (z .0)) l in
     puts-flat size (k + 1) rs t' (z .1) l'
-    ∙ rw (e, e2, e1, put-there size k r t (z .0) (omega arith), put-after size k r t (n * size) (z .0)) (ap (λ (x : List ℕ). x ++ drop (k * size + size + n * size) t) (append-assoc (take (k * size) t) r (flat rs)))
+    ∙ rw (e, e2, e1, put-there size k r t (z .0) (omega arith), put-after size k r t (n * size) (z .0))
+    (ap (λ (x : List ℕ). x ++ drop (k * size + size + n * size) t) (append-assoc (take (k * size) t) r (flat rs)))
 
 -- from the first row on
 pub puts-all : (size : ℕ) (rows : List (List ℕ)) (t : List ℕ) → Sized size rows → length rows * size ≤ length t

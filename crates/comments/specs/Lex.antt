@@ -5,7 +5,7 @@ use Rattle.meaning.specs.declared.Match.{Match}
 use Rattle.meaning.specs.declared.Match.the-variants.{Missed, Took}
 use Rattle.meaning.specs.Peg.{run, bytewise}
 use Rattle.meaning.specs.Pdl.{COMMENT, string}
-use Rattle.meaning.specs.Tables.{Table, size, Item, rowsOf, count, puts}
+use Rattle.meaning.specs.Tables.{Table, Item, count}
 use Rattle.meaning.specs.Walk.{comment-row}
 
 -- what stands at offset o of src, as a comment and as a string; `rest k` is the pass from the next byte on, over k bytes first
@@ -25,17 +25,6 @@ lex src zero o (x ∷ t) =
 abbrev pub lexical : List ℕ → List Item
 lexical src = lex src 0 0 src
 
--- ---- what the functions answer and leave
+-- how many rows it has
 abbrev pub comment-count : List ℕ → ℕ
 comment-count src = count Table.comments (lexical src)
-
-pub record Left : Type 0 where
-  pub count : ℕ
-  pub words : List ℕ
-
-abbrev pub left : ℕ → List ℕ → Left
-left n t = record { count = n; words = t }
-
--- the rows stand in the lent words t from their start on
-unfoldable pub written : List ℕ → List ℕ → Left
-written src t = left (comment-count src) (puts (size Table.comments) 0 (rowsOf Table.comments (lexical src)) t)

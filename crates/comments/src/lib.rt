@@ -5,12 +5,13 @@ ghost use Prim.Native.Nat.{_<_};
 ghost use lib.Dec.{eqb};
 ghost use lib.ListN.{length};
 ghost use Rattle.meaning.specs.Choice.{both};
+ghost use Rattle.meaning.specs.Tables.{Table};
 ghost use Rattle.lexis.specs.Classes.{Runs};
+ghost use Rattle.walk.specs.State.{fresh, lend, Wrote};
 ghost use Rattle.comments.specs.LexLaws.{plain-byte};
-ghost use Rattle.comments.specs.Lex.{comment-count, left, written};
-ghost use Rattle.comments.specs.Steps.{Closed, Comment, Past, kind-of, words};
+ghost use Rattle.comments.specs.Lex.{lexical};
+ghost use Rattle.comments.specs.Steps.{Closed, Comment, Ready, GoesComment, Past, kind-of, words};
 use ast::numbers;
-use ast::put_row;
 use grammar::taken;
 use lexis::blanks::comment;
 use lexis::blanks::line_comment;
@@ -18,7 +19,8 @@ use lexis::texts::literal;
 use lexis::tokens::string;
 use meaning::Match;
 use meaning::SourceLocation;
-use text::move_to;
+use walk::Door;
+use walk::Walk;
 
 // Whether the two bytes close a block comment.
 fn closes(a: u8, b: u8) -> bool
@@ -89,28 +91,6 @@ fn plain_run(s: &[u8]) -> usize
     i
 }
 
-// The number of comments.
-pub fn count_comments(s: &[u8]) -> usize
-    ensures { λ r. ⌜ r ≡ comment-count (now (s .entry)) ⌝ }
-{
-    let mut k: usize = 0;
-    let mut i: usize = 0;
-    let close = last_close(s);
-    loop {
-        i += plain_run(&s[i..]);
-        if s.len() <= i {
-            return k;
-        }
-        let n = comment_at(s, i, close);
-        if n == 0 {
-            i += past_at(s, i);
-        } else {
-            k += 1;
-            i += n;
-        }
-    }
-}
-
 // A comment's kind: block 1, line 2.
 fn kind_at(s: &[u8], at: usize) -> u64
     requires { ⌜ at < length (now s) ⌝ }
@@ -137,32 +117,37 @@ fn comment_row(kind: u64, p: SourceLocation, q: SourceLocation) -> [u64; numbers
     ]
 }
 
-// A row for each comment, as far as the table holds rows; the answer is the number of comments.
-pub fn write_comments(s: &[u8], t: &mut [u64]) -> usize
-    ensures { λ r. ⌜ left r (now (t .exit)) ≡ written (now (s .entry)) (now (t .entry)) ⌝ }
+// A comment of `len` bytes at `at`: its row comes to the door.
+fn put_comment(s: &[u8], at: usize, len: usize, n: Walk, t: &mut [u64]) -> Walk
+    requires { ⌜ Ready (now s) at len n ⌝ }
+    ensures { λ r. ⌜ GoesComment (now (s .entry)) at len n r (lend Table.comments (now (t .entry))) (lend Table.comments (now (t .exit))) ⌝ }
 {
-    let mut k: usize = 0;
+    let a = walk::to(s, n, at);
+    let b = walk::to(s, a, at + len);
+    let p = a.here;
+    let q = b.here;
+    let row = comment_row(kind_at(s, at), p, q);
+    walk::put(b, walk::COMMENTS, &row, t)
+}
+
+// The comments of a source: the row of each comes to the door.
+pub fn put_comments(s: &[u8], door: Door, t: &mut [u64]) -> Walk
+    ensures { λ r. ⌜ Wrote (lexical (now (s .entry))) (fresh door) r (lend Table.comments (now (t .entry))) (lend Table.comments (now (t .exit))) ⌝ }
+{
+    let mut n = walk::nothing(door);
     let mut i: usize = 0;
-    let mut p = SourceLocation {
-        offset: 0,
-        line: 0,
-        column: 0,
-    };
     let close = last_close(s);
     loop {
         i += plain_run(&s[i..]);
         if s.len() <= i {
-            return k;
+            return n;
         }
-        let n = comment_at(s, i, close);
-        if n == 0 {
+        let len = comment_at(s, i, close);
+        if len == 0 {
             i += past_at(s, i);
         } else {
-            let q = move_to(s, p, i);
-            p = move_to(s, q, i + n);
-            put_row(t, k, &comment_row(kind_at(s, i), q, p));
-            k += 1;
-            i += n;
+            n = put_comment(s, i, len, n, t);
+            i += len;
         }
     }
 }

@@ -1,5 +1,2 @@
 pub mod Constraints
-pub mod Lists
-pub mod ListLaws
-pub mod Spanned
-pub mod SpanLaws
+pub mod Listed

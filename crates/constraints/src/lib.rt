@@ -3,7 +3,7 @@ ghost use Rattle.meaning.specs.Peg.{seq, alt, star};
 ghost use Rattle.meaning.specs.Pdl.{text, _~_, skip, identifier, integer, constraint, constraint-list};
 ghost use Rattle.grammar.specs.Matching.{Within, Reads, Steps};
 ghost use Rattle.grammar.specs.Drawing.{Draws, Follows};
-ghost use Rattle.spans.specs.Drawn.{drawToken, drawConstraint};
+ghost use Rattle.spans.specs.Drawn.{drawOperand, drawConstraint};
 use grammar::settle;
 use lexis::blanks::next_literal;
 use lexis::blanks::then_blanks;
@@ -13,27 +13,27 @@ use lexis::tokens::then_integer;
 use meaning::Match;
 use spans::Constraint;
 use spans::ConstraintMatch;
-use spans::Token;
-use spans::TokenMatch;
+use spans::Operand;
+use spans::OperandMatch;
 use spans::between;
 
 // A tag's name or an integer, where m ends.
-fn then_operand(s: &[u8], m: Match) -> TokenMatch
+fn then_operand(s: &[u8], m: Match) -> OperandMatch
     requires { ⌜ Within m (now s) ⌝ }
-    ensures { λ r. ⌜ Follows m (alt identifier integer) (now (s .entry)) (r .at) (λ o. drawToken o (r .token)) ⌝ }
+    ensures { λ r. ⌜ Follows m (alt identifier integer) (now (s .entry)) (r .at) (λ o. drawOperand o (r .operand)) ⌝ }
 {
     let x = then_identifier(s, m);
     if let Match::Took(_, _) = x {
-        return TokenMatch {
+        return OperandMatch {
             at: x,
-            token: Token::Identifier(between(m, x)),
+            operand: Operand::Identifier(between(m, x)),
         };
     }
     let b = settle(s, m, x);
     let y = then_integer(s, b);
-    TokenMatch {
+    OperandMatch {
         at: y,
-        token: Token::Integer(between(b, y)),
+        operand: Operand::Integer(between(b, y)),
     }
 }
 
@@ -46,7 +46,7 @@ pub fn then_constraint(s: &[u8], m: Match) -> ConstraintMatch
     let b = then_blanks(s, next_literal(s, a, b"="));
     let v = then_operand(s, b);
     let at = v.at;
-    let value = v.token;
+    let value = v.operand;
     ConstraintMatch {
         at,
         constraint: Constraint {

@@ -19,12 +19,12 @@ use Rattle.grammar.specs.Drawing.{Draws, whole, opened, drawn, then, noted}
 use Rattle.lexis.specs.Skips.{skips}
 use Rattle.spans.specs.Parts.{gap, mark}
 
--- where a list stands behind a head of n bytes at `at`
-abbrev pub listStart : List ℕ → ℕ → ℕ → ℕ
-listStart src at n = at + n + taken (run (bytewise skip) (drop (at + n) src))
+-- where a list stands behind a head that ends at e
+abbrev pub listStart : List ℕ → ℕ → ℕ
+listStart src e = e + taken (run (bytewise skip) (drop e src))
 
-pub list-within : (src : List ℕ) (at n : ℕ) → at + n ≤ length src → listStart src at n ≤ length src
-list-within src at n e = omega (arith, skips (drop (at + n) src) .fits, length-drop (at + n) src)
+pub list-within : (src : List ℕ) (e : ℕ) → e ≤ length src → listStart src e ≤ length src
+list-within src e h = omega (arith, skips (drop e src) .fits, length-drop e src)
 
 module _ (r : Rule) (c : is Rule.COMMENT r ≡ false) (h l : Peg) (src : List ℕ) (at : ℕ) {m : Match} {w : ℕ → Forest} (d : Draws h (drop at src) m w) where
   abbrev t : List ℕ
@@ -68,28 +68,36 @@ module _ (r : Rule) (c : is Rule.COMMENT r ≡ false) (h l : Peg) (src : List �
     head-hits = hit-before m (λ u. run (bytewise skip) u) t h1
 
     -- where the list stands
-    place-is : at + taken b1 ≡ listStart src at (taken m)
+    place-is : at + taken b1 ≡ listStart src (at + taken m)
     place-is = omega (arith, taken-after m (λ u. run (bytewise skip) u) t h1, ap (λ (u : List ℕ). taken (run (bytewise skip) u)) (drop-drop (taken m) at src))
 
-    rest-at : drop (taken b1) (drop at src) ≡ drop (listStart src at (taken m)) src
+    rest-at : drop (taken b1) (drop at src) ≡ drop (listStart src (at + taken m)) src
     rest-at = drop-drop (taken b1) at src ∙ ap (λ (i : ℕ). drop i src) place-is
 
-    pub list-hits : hit (run (bytewise l) (drop (listStart src at (taken m)) src)) ≡ true
+    pub list-hits : hit (run (bytewise l) (drop (listStart src (at + taken m)) src)) ≡ true
     list-hits = ap (λ (u : List ℕ). hit (run (bytewise l) u)) (sym rest-at) ∙ hit-behind b1 (λ u. run (bytewise l) u) t h2
 
     pub braced-nodes : nodes (bytewise (rule r (seq (seq h (seq skip l)) (seq skip (text "}"))))) at (drop at src)
         ≡ tree r at (taken (run (bytewise (rule r (seq (seq h (seq skip l)) (seq skip (text "}"))))) (drop at src)))
-        (w at ⊕ nodes (bytewise l) (listStart src at (taken m)) (drop (listStart src at (taken m)) src)) nil
+        (w at ⊕ nodes (bytewise l) (listStart src (at + taken m)) (drop (listStart src (at + taken m)) src)) nil
     braced-nodes =
         all .draws h3 at
         ∙ ap₂ (λ (n : ℕ) (v : Forest). tree r at n v nil) (ap taken (all .reads .is))
         (nil-right _ ∙ ap (λ (v : Forest). w at ⊕ v) (ap₂ (λ (i : ℕ) (u : List ℕ). nodes (bytewise l) i u) place-is rest-at))
 
     -- where the whole ends: j is where the list does
-    pub braced-ends : (j : ℕ) → j ≡ listStart src at (taken m) + taken (run (bytewise l) (drop (listStart src at (taken m)) src))
-        → at + taken (run (bytewise (rule r (seq (seq h (seq skip l)) (seq skip (text "}"))))) (drop at src)) ≡ j + taken (run (bytewise (seq skip (text "}"))) (drop j src))
+    pub braced-ends : (j : ℕ) → j ≡ listStart src (at + taken m) + taken (run (bytewise l) (drop (listStart src (at + taken m)) src))
+        → at + taken (run (bytewise (rule r (seq (seq h (seq skip l)) (seq skip (text "}"))))) (drop at src)) ≡ j + taken
+        (run (bytewise (seq skip (text "}"))) (drop j src))
     braced-ends j e =
-        let a : at + taken b2 ≡ j = omega (arith, e, taken-after b1 (λ u. run (bytewise l) u) t h2, place-is, ap (λ (u : List ℕ). taken (run (bytewise l) u)) rest-at) in
+        let a : at + taken b2 ≡ j = omega (
+          arith,
+          e,
+          taken-after b1 (λ u. run (bytewise l) u) t h2,
+          place-is,
+          ap
+              (λ (u : List ℕ). taken (run (bytewise l) u)) rest-at,
+        ) in
         let b : drop (taken b2) (drop at src) ≡ drop j src = drop-drop (taken b2) at src ∙ ap (λ (i : ℕ). drop i src) a in
         omega (
           arith,

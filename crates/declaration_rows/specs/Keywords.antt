@@ -47,19 +47,26 @@ one-left n6 = refl
 pub kind-is : {t : List ℕ} {k : ℕ} → Numbered k → prefixb (word k) t ≡ true → KindAt t k
 kind-is {t} {k} n h =
     record {
-      known = record { known = subst (λ (g : Peg). Same (bytewise declaration) g t) (one-left n) (same (clash (word k)) t (λ l e. clashes (word k) l t e h) (bytewise declaration)) };
+      known =
+          record {
+            known = subst (λ (g : Peg). Same (bytewise declaration) g t) (one-left n)
+                (same (clash (word k)) t (λ l e. clashes (word k) l t e h) (bytewise declaration));
+          };
       numbered = λ z. n;
     }
 
 -- where none of the six words stands, only a test is left
 abbrev one-of-six : List ℕ → Bool
-one-of-six l = either (alike (word 1) l) (either (alike (word 2) l) (either (alike (word 3) l) (either (alike (word 4) l) (either (alike (word 5) l) (alike (word 6) l)))))
+one-of-six l =
+    either (alike (word 1) l) (either (alike (word 2) l)
+    (either (alike (word 3) l) (either (alike (word 4) l) (either (alike (word 5) l) (alike (word 6) l)))))
 
 test-left : left one-of-six (bytewise declaration) ≡ bytewise (declared 0)
 unfolding rules declared
 test-left = refl
 
-pub kind-test : {t : List ℕ} → prefixb (word 1) t ≡ false → prefixb (word 2) t ≡ false → prefixb (word 3) t ≡ false → prefixb (word 4) t ≡ false → prefixb (word 5) t ≡ false
+pub kind-test : {t : List ℕ} → prefixb (word 1) t ≡ false → prefixb (word 2) t ≡ false → prefixb (word 3) t ≡ false → prefixb (word 4) t ≡ false → prefixb
+    (word 5) t ≡ false
     → prefixb (word 6) t ≡ false → KindAt t 0
 kind-test {t} h1 h2 h3 h4 h5 h6 =
     record {
@@ -67,7 +74,8 @@ kind-test {t} h1 h2 h3 h4 h5 h6 =
       numbered = λ z. absurd (z refl);
     }
   where
-    next : (k : ℕ) (l : List ℕ) (b : Bool) → prefixb (word k) t ≡ false → (b ≡ true → prefixb l t ≡ false) → either (alike (word k) l) b ≡ true → prefixb l t ≡ false
+    next : (k : ℕ) (l : List ℕ) (b : Bool) → prefixb (word k) t ≡ false → (b ≡ true → prefixb l t ≡ false) → either (alike (word k) l) b ≡ true → prefixb l t
+        ≡ false
     next k l b h f e = go (alike (word k) l) refl e
       where
         go : (a : Bool) → alike (word k) l ≡ a → either a b ≡ true → prefixb l t ≡ false
@@ -76,7 +84,8 @@ kind-test {t} h1 h2 h3 h4 h5 h6 =
 
     gone : (l : List ℕ) → one-of-six l ≡ true → prefixb l t ≡ false
     gone l e =
-        next 1 l _ h1 (λ e. next 2 l _ h2 (λ e. next 3 l _ h3 (λ e. next 4 l _ h4 (λ e. next 5 l _ h5 (λ e. ap (λ (m : List ℕ). prefixb m t) (sym (alike-same (word 6) l e)) ∙ h6) e) e) e) e) e
+        next 1 l _ h1 (λ e. next 2 l _ h2
+        (λ e. next 3 l _ h3 (λ e. next 4 l _ h4 (λ e. next 5 l _ h5 (λ e. ap (λ (m : List ℕ). prefixb m t) (sym (alike-same (word 6) l e)) ∙ h6) e) e) e) e) e
 
 -- ---- what `kind_at` finds of a word
 pub word-told : {l t : List ℕ} {m : Match} {b c : Bool} → Reads (lit l) t m → b ≡ hit m → b ≡ c → prefixb l t ≡ c

@@ -56,7 +56,8 @@ custom-else : (k : ℕ) → (k ≡ 1 → ⊥) → (k ≡ 2 → ⊥) → (k ≡ 3
 unfolding kindOf
 custom-else k a b c d e = rw (ne-eqb k 1 a, ne-eqb k 2 b, ne-eqb k 3 c, ne-eqb k 4 d, ne-eqb k 5 e)
 
-pub head-else : (k : ℕ) (t : List ℕ) (r : Header) → (k ≡ 1 → ⊥) → (k ≡ 2 → ⊥) → (k ≡ 3 → ⊥) → (k ≡ 4 → ⊥) → (k ≡ 5 → ⊥) → HeadOf custom t r → HeadOf (kindOf k) t r
+pub head-else : (k : ℕ) (t : List ℕ) (r : Header) → (k ≡ 1 → ⊥) → (k ≡ 2 → ⊥) → (k ≡ 3 → ⊥) → (k ≡ 4 → ⊥) → (k ≡ 5 → ⊥) → HeadOf custom t r → HeadOf
+    (kindOf k) t r
 head-else k t r a b c d e h = subst (λ (z : Kind). HeadOf z t r) (sym (custom-else k a b c d e)) h
 
 -- the walk knows a declaration's number by its node

@@ -44,7 +44,8 @@ module _ (src : List ℕ) (j k : ℕ) (sk : Skips (drop j src) k) where
       let e : taken (run (bytewise skip) (drop j src)) ≡ k = ap taken (sk .is) in
       let q : drop (taken (run (bytewise skip) (drop j src))) (drop j src) ≡ drop (j + k) src = ap (λ (i : ℕ). drop i (drop j src)) e ∙ drop-drop k j src in
       nodes-seq (bytewise skip) (bytewise declaration) j (drop j src) (ap hit (sk .is)) (ap (λ (u : List ℕ). hit (run (bytewise declaration) u)) q ∙ h)
-      ∙ ap (λ (w : Forest). w ⊕ nodes (bytewise declaration) (j + taken (run (bytewise skip) (drop j src))) (drop (taken (run (bytewise skip) (drop j src))) (drop j src))) (skip-none j (drop j src))
+      ∙ ap (λ (w : Forest). w ⊕ nodes (bytewise declaration) (j + taken (run (bytewise skip) (drop j src)))
+      (drop (taken (run (bytewise skip) (drop j src))) (drop j src))) (skip-none j (drop j src))
       ∙ ap₂ (λ (i : ℕ) (u : List ℕ). nodes (bytewise declaration) (j + i) u) e q
 
   turn-end : hit next ≡ true → j + k + taken next ≡ j + taken (run (bytewise (seq skip declaration)) (drop j src))

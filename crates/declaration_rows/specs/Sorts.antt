@@ -52,7 +52,8 @@ module _ (ok : Table → Bool) (f : ok Table.fields ≡ true) (t : ok Table.tags
 
   pub of-constraints : (w : Forest) → Sorted ok (parse-constraint-list src w)
   unfolding parse-constraint-list
-  of-constraints w = sorted-each Rule.constraint (λ p. constraint-number src p ++ constraint-row src p) (λ p. sorted-++ (of-constraint-number p) (of-constraint-row p)) w
+  of-constraints w =
+      sorted-each Rule.constraint (λ p. constraint-number src p ++ constraint-row src p) (λ p. sorted-++ (of-constraint-number p) (of-constraint-row p)) w
 
   of-tag-row : (k : ℕ) (p v e : Part) (n : ℕ) → Sorted ok (tag-row src k p v e n)
   unfolding tag-row
@@ -69,7 +70,8 @@ module _ (ok : Table → Bool) (f : ok Table.fields ≡ true) (t : ok Table.tags
       let most = part Rule.integer (least .next) in
       let w = part Rule.enum-value-list (most .next) .kids in
       sorted-++
-      (sorted-++ (sorted-++ (of-number least) (of-number most)) (of-tag-row 2 p least most (count Table.tags (each Rule.enum-value (λ q. parse-enum-value src 4 q) w))))
+      (sorted-++ (sorted-++ (of-number least) (of-number most))
+      (of-tag-row 2 p least most (count Table.tags (each Rule.enum-value (λ q. parse-enum-value src 4 q) w))))
       (sorted-each Rule.enum-value (λ q. parse-enum-value src 4 q) (λ q. of-enum-value 4 q) w)
 
   of-enum-other : (p : Part) → Sorted ok (parse-enum-other src p)

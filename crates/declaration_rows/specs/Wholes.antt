@@ -1,19 +1,17 @@
 -- A whole declaration, by its kind: the nodes of its head, and then those of its members.
-use Prim.Native.Nat.{ℕ, _+_, _≤_, _<_}
+use Prim.Native.Nat.{ℕ, _+_}
 use native.Mathlib.Omega.{arith}
 use mathlib.Core.Path.{_≡_, refl, ap, sym, _∙_}
 use mathlib.Core.List.{List}
 use mathlib.Core.Bool.{Bool, true, false}
 use lib.ListN.{drop}
-use lib.Dec.{ltb}
-use borrow.Author.Tests.{lt-ltb, le-ltb}
 use Rattle.meaning.specs.declared.Match.{Match}
 use Rattle.meaning.specs.declared.Match.the-variants.{Missed, Took}
 use Rattle.meaning.specs.Choice.{pick}
 use Rattle.meaning.specs.Rules.{Rule, is}
-use Rattle.meaning.specs.Peg.{Peg, seq, opt, rule, maybe, run, bytewise, hit, taken}
+use Rattle.meaning.specs.Peg.{Peg, opt, rule, maybe, run, bytewise, hit, taken}
 use Rattle.meaning.specs.Forest.{Forest, nil, tree, _⊕_, nodes}
-use Rattle.meaning.specs.Pdl.{text, skip, enum-tag, enum-tag-list, field, field-list, enum-declaration, packet-declaration, struct-declaration, group-declaration, checksum-declaration, custom-field-declaration}
+use Rattle.meaning.specs.Pdl.{enum-tag, enum-tag-list, field, field-list, enum-declaration, packet-declaration, struct-declaration, group-declaration, checksum-declaration, custom-field-declaration}
 use Rattle.grammar.specs.Nodes.{nil-right, nodes-opt, nodes-rule}
 use Rattle.grammar.specs.Drawing.{Draws}
 use Rattle.spans.specs.declared.Header.{Header}
@@ -22,26 +20,16 @@ use Rattle.walk.specs.Listing.{list-hit}
 use Rattle.declarations.specs.Headers.{enum-head, packet-head, struct-head, group-head, checksum-head, custom-head}
 use Rattle.declaration_rows.specs.Kinds.{declared, kindOf, HeadOf, Numbered, n1, n2, n3, n4, n5, n6}
 use Rattle.declaration_rows.specs.Braces.{listStart, head-hits, list-hits, braced-nodes, braced-ends}
-use Rattle.declaration_rows.specs.Members.{memberNodes, memberEnd}
-
--- where a declaration ends whose head ends at e and whose members end at j
-abbrev pub declarationEnd : List ℕ → ℕ → ℕ → ℕ → ℕ
-declarationEnd src k e j = pick (ltb 4 k) e (j + taken (run (bytewise (seq skip (text "}"))) (drop j src)))
-
-pub bare-end : (src : List ℕ) (k e j : ℕ) → 4 < k → e ≡ declarationEnd src k e j
-bare-end src k e j h = ap (λ (b : Bool). pick b e (j + taken (run (bytewise (seq skip (text "}"))) (drop j src)))) (sym (lt-ltb 4 k h))
-
-pub braced-end : (src : List ℕ) (k e j n : ℕ) → k ≤ 4 → n ≡ taken (run (bytewise (seq skip (text "}"))) (drop j src)) → j + n ≡ declarationEnd src k e j
-braced-end src k e j n h q = ap (λ (i : ℕ). j + i) q ∙ ap (λ (b : Bool). pick b e (j + taken (run (bytewise (seq skip (text "}"))) (drop j src)))) (sym (le-ltb 4 k h))
+use Rattle.declaration_rows.specs.Members.{memberNodes, wholeEnd}
 
 -- a declaration of the kind k at `at`, whose head is h
 pub record Whole (src : List ℕ) (at k : ℕ) (h : Header) : Type 0 where
   pub headed : hit (h .at) ≡ true
-  pub tagged : k ≡ 1 → hit (run (bytewise enum-tag) (drop (listStart src at (taken (h .at))) src)) ≡ true
+  pub tagged : k ≡ 1 → hit (run (bytewise enum-tag) (drop (listStart src (at + taken (h .at))) src)) ≡ true
   pub nodes-are : nodes (bytewise (declared k)) at (drop at src)
       ≡ tree (kindOf k .root) at (taken (run (bytewise (declared k)) (drop at src)))
-      (drawHeader (kindOf k .keyword) at (drop at src) h ⊕ memberNodes src k (listStart src at (taken (h .at)))) nil
-  pub ends : at + taken (run (bytewise (declared k)) (drop at src)) ≡ declarationEnd src k (at + taken (h .at)) (memberEnd src k (listStart src at (taken (h .at))))
+      (drawHeader (kindOf k .keyword) at (drop at src) h ⊕ memberNodes src k (listStart src (at + taken (h .at)))) nil
+  pub ends : at + taken (run (bytewise (declared k)) (drop at src)) ≡ wholeEnd src k (at + taken (h .at))
 
 -- ---- the lists
 tags-hit : (u : List ℕ) → hit (run (bytewise enum-tag-list) u) ≡ hit (run (bytewise enum-tag) u)
@@ -55,7 +43,8 @@ fields-hit u = list-hit Rule.field-list field refl u
 some-fields : (i : ℕ) (u : List ℕ) → nodes (bytewise (opt field-list)) i u ≡ pick (hit (run (bytewise field) u)) (nodes (bytewise field-list) i u) nil
 some-fields i u = nodes-opt (bytewise field-list) i u ∙ ap (λ (b : Bool). pick b (nodes (bytewise field-list) i u) nil) (fields-hit u)
 
-some-end : (i : ℕ) (u : List ℕ) → pick (hit (run (bytewise field) u)) (i + taken (run (bytewise field-list) u)) i ≡ i + taken (run (bytewise (opt field-list)) u)
+some-end : (i : ℕ) (u : List ℕ) → pick (hit (run (bytewise field) u)) (i + taken (run (bytewise field-list) u)) i ≡ i + taken
+    (run (bytewise (opt field-list)) u)
 unfolding run
 some-end i u = ap (λ (b : Bool). pick b (i + taken (run (bytewise field-list) u)) i) (sym (fields-hit u)) ∙ go (run (bytewise field-list) u)
   where
@@ -63,10 +52,12 @@ some-end i u = ap (λ (b : Bool). pick b (i + taken (run (bytewise field-list) u
     go (Missed f) = omega arith
     go (Took n f) = refl
 
-all-end : (i : ℕ) (u : List ℕ) → hit (run (bytewise field-list) u) ≡ true → pick (hit (run (bytewise field) u)) (i + taken (run (bytewise field-list) u)) i ≡ i + taken (run (bytewise field-list) u)
+all-end : (i : ℕ) (u : List ℕ) → hit (run (bytewise field-list) u) ≡ true → pick (hit (run (bytewise field) u)) (i + taken (run (bytewise field-list) u)) i
+    ≡ i + taken (run (bytewise field-list) u)
 all-end i u h = ap (λ (b : Bool). pick b (i + taken (run (bytewise field-list) u)) i) (sym (fields-hit u) ∙ h)
 
-all-fields : (i : ℕ) (u : List ℕ) → hit (run (bytewise field-list) u) ≡ true → nodes (bytewise field-list) i u ≡ pick (hit (run (bytewise field) u)) (nodes (bytewise field-list) i u) nil
+all-fields : (i : ℕ) (u : List ℕ) → hit (run (bytewise field-list) u) ≡ true → nodes (bytewise field-list) i u ≡ pick (hit (run (bytewise field) u))
+    (nodes (bytewise field-list) i u) nil
 all-fields i u h = ap (λ (b : Bool). pick b (nodes (bytewise field-list) i u) nil) (sym h ∙ fields-hit u)
 
 -- ---- the kinds
@@ -75,7 +66,7 @@ module _ (src : List ℕ) (at : ℕ) (h : Header) where
   t = drop at src
 
   abbrev i : ℕ
-  i = listStart src at (taken (h .at))
+  i = listStart src (at + taken (h .at))
 
   -- a kind that ends with its head
   bare : (r : Rule) (g : Peg) (kw : Rule) → is Rule.COMMENT r ≡ false → Draws g t (h .at) (λ o. drawHeader kw o t h) → hit (run (bytewise g) t) ≡ true
@@ -89,7 +80,8 @@ module _ (src : List ℕ) (at : ℕ) (h : Header) where
   refill r kw {n} e = ap (λ (v : Forest). tree r at n (drawHeader kw at t h ⊕ v) nil) e
 
   pub whole : {k : ℕ} → Numbered k → HeadOf (kindOf k) t h → hit (run (bytewise (declared k)) t) ≡ true → Whole src at k h
-  unfolding declared kindOf enum-declaration packet-declaration struct-declaration group-declaration checksum-declaration custom-field-declaration enum-head packet-head struct-head group-head checksum-head custom-head run
+  unfolding declared kindOf enum-declaration packet-declaration struct-declaration group-declaration checksum-declaration custom-field-declaration enum-head
+      packet-head struct-head group-head checksum-head custom-head run
   whole n1 d e =
       record {
         headed = head-hits Rule.enum-declaration refl enum-head enum-tag-list src at d e;
@@ -122,9 +114,25 @@ module _ (src : List ℕ) (at : ℕ) (h : Header) where
         nodes-are =
             braced-nodes Rule.group-declaration refl group-head field-list src at d e
             ∙ refill Rule.group-declaration Rule.GROUP (all-fields i (drop i src) (list-hits Rule.group-declaration refl group-head field-list src at d e));
-        ends = braced-ends Rule.group-declaration refl group-head field-list src at d e _ (all-end i (drop i src) (list-hits Rule.group-declaration refl group-head field-list src at d e));
+        ends =
+            braced-ends Rule.group-declaration refl group-head field-list src at d e _
+            (all-end i (drop i src) (list-hits Rule.group-declaration refl group-head field-list src at d e));
       }
   whole n5 d e =
-      record { headed = ap hit (d .reads .is) ∙ e; tagged = λ z. absurd (omega arith); nodes-are = bare Rule.checksum-declaration checksum-head Rule.CHECKSUM refl d e; ends = ap (λ (m : Match). at + taken m) (sym (d .reads .is)) }
+      record {
+        headed = ap hit (d .reads .is) ∙ e;
+        tagged = λ z. absurd
+            (omega arith);
+        nodes-are = bare Rule.checksum-declaration checksum-head Rule.CHECKSUM refl d e;
+        ends = ap (λ (m : Match). at + taken m)
+            (sym (d .reads .is));
+      }
   whole n6 d e =
-      record { headed = ap hit (d .reads .is) ∙ e; tagged = λ z. absurd (omega arith); nodes-are = bare Rule.custom-field-declaration custom-head Rule.CUSTOM-FIELD refl d e; ends = ap (λ (m : Match). at + taken m) (sym (d .reads .is)) }
+      record {
+        headed = ap hit (d .reads .is) ∙ e;
+        tagged = λ z. absurd
+            (omega arith);
+        nodes-are = bare Rule.custom-field-declaration custom-head Rule.CUSTOM-FIELD refl d e;
+        ends = ap (λ (m : Match). at + taken m)
+            (sym (d .reads .is));
+      }

@@ -2,22 +2,23 @@
 ghost use mathlib.Core.Path.{_≡_};
 ghost use Prim.Native.Nat.{_≤_};
 ghost use lib.ListN.{length};
+ghost use Rattle.meaning.specs.Tables.{Table};
+ghost use Rattle.walk.specs.State.{lend, At};
 ghost use Rattle.declaration_rows.specs.Keywords.{KindAt};
-ghost use Rattle.declaration_rows.specs.Members.{listEnd, fielded, membersOf, Membered, WroteMembers};
-ghost use Rattle.declaration_rows.specs.Wholes.{declarationEnd};
-ghost use Rattle.declaration_rows.specs.Declarations.{Rowed, declarationRow, ReadyKind, Ready, WroteOne};
-ghost use Rattle.declaration_rows.specs.Lists.{Begun, WroteAll};
+ghost use Rattle.declaration_rows.specs.Ways.{three, four};
+ghost use Rattle.declaration_rows.specs.Members.{listEnd, closing, membersOf, Tagged, GoesTags, GoesFields, Membered, GoesMembers};
+ghost use Rattle.declaration_rows.specs.Declarations.{Ready, ReadyKind, Opened, GoesOne, GoesParts, Rowed, GoesRow};
+ghost use Rattle.declaration_rows.specs.Lists.{Begun, GoesAll};
 use crate::heads::Headed;
 use crate::heads::head_of;
 use crate::heads::put_head;
-use ast::numbers;
 use declarations::tests::test_declaration;
 use lexis::blanks::blanks;
 use lexis::blanks::next_literal;
 use lexis::blanks::then_last_comma;
 use lexis::texts::literal;
 use meaning::Match;
-use meaning::SourceLocation;
+use spans::Header;
 use walk::Walk;
 use walk::Walked;
 
@@ -63,62 +64,117 @@ fn list_end(s: &[u8], j: usize) -> usize
     j + grammar::taken(m)
 }
 
-// Where a declaration ends whose head ends at e and whose members end at j.
-fn declaration_end(s: &[u8], kind: u64, e: usize, j: usize) -> usize
+// Where a declaration ends whose members end at j: behind its closing brace.
+fn closed(s: &[u8], j: usize) -> usize
     requires { ⌜ j ≤ length (now s) ⌝ }
-    ensures { λ r. ⌜ r ≡ declarationEnd (now (s .entry)) kind e j ⌝ }
+    ensures { λ r. ⌜ r ≡ closing (now (s .entry)) j ⌝ }
 {
-    if 4 < kind {
-        return e;
-    }
     let brace = next_literal(&s[j..], Match::Took(0, 0), b"}");
     j + grammar::taken(brace)
 }
 
-// Whether fields stand at i, in a declaration of this kind.
-fn has_fields(s: &[u8], i: usize, kind: u64) -> bool
-    requires { ⌜ i ≤ length (now s) ⌝ }
-    ensures { λ r. ⌜ r ≡ fielded (now (s .entry)) i kind ⌝ }
+// The rows of an enum's tags, which stand at i, and where their list ends.
+fn put_tags(s: &[u8], i: usize, n: Walk, tags: &mut [u64]) -> Walked
+    requires { ⌜ Tagged (now s) i n ⌝ }
+    ensures { λ r. ⌜ GoesTags (now (s .entry)) i n r (lend Table.tags (now (tags .entry))) (lend Table.tags (now (tags .exit))) ⌝ }
 {
-    if 4 < kind {
-        return false;
+    let first = tags::enum_tag(&s[i..]);
+    let w = tag_rows::put_tags(s, i, first, n, tags);
+    let walk = w.walk;
+    Walked {
+        walk,
+        end: list_end(s, w.end),
     }
-    let f = fields::field(&s[i..]);
-    let end = f.at;
-    grammar::took(end)
 }
 
-// The rows of an enum's tags, or of the fields of any other kind, from i on.
+// The rows of the fields that stand at i, if there are some, and where their list ends.
+// Rust: parse_field_list_opt.
+fn put_fields(s: &[u8], i: usize, n: Walk, fields: &mut [u64], constraints: &mut [u64]) -> Walked
+    requires { ⌜ At (now s) i n ⌝ }
+    ensures { λ r. ⌜ GoesFields (now (s .entry)) i n r (λ l. lend Table.fields (now (fields .entry)) (lend Table.constraints (now (constraints .entry)) l))
+        (λ l. lend Table.fields (now (fields .exit)) (lend Table.constraints (now (constraints .exit)) l)) ⌝ }
+{
+    let first = fields::field(&s[i..]);
+    let end = first.at;
+    let there = grammar::took(end);
+    if there {} else {
+        return Walked { walk: n, end: i };
+    }
+    let w = field_rows::put_fields(s, i, first, n, fields, constraints);
+    let walk = w.walk;
+    Walked {
+        walk,
+        end: list_end(s, w.end),
+    }
+}
+
+// The rows of a declaration's members, whose head ends at e: the tags of an enum, the fields of any other kind that has braces;
+// and where the declaration ends.
 fn put_members(
     s: &[u8],
-    i: usize,
-    q: SourceLocation,
+    e: usize,
     kind: u64,
     n: Walk,
     fields: &mut [u64],
     tags: &mut [u64],
     constraints: &mut [u64],
 ) -> Walked
-    requires { ⌜ Membered (now s) i q kind n ⌝ }
-    ensures { λ r. ⌜ WroteMembers (now (s .entry)) i kind n r (now (fields .entry)) (now (fields .exit)) (now (tags .entry)) (now (tags .exit)) (now (constraints .entry)) (now (constraints .exit)) ⌝ }
+    requires { ⌜ Membered (now s) e kind n ⌝ }
+    ensures { λ r. ⌜ GoesMembers (now (s .entry)) e kind n r (three (now (fields .entry)) (now (tags .entry)) (now (constraints .entry)))
+        (three (now (fields .exit)) (now (tags .exit)) (now (constraints .exit))) ⌝ }
 {
+    if 4 < kind {
+        return Walked { walk: n, end: e };
+    }
+    let i = e + blanks(&s[e..]);
     if kind == 1 {
-        let w = tag_rows::put_tags(s, i, q, n, tags);
-        let behind = w.walk;
+        let w = put_tags(s, i, n, tags);
+        let walk = w.walk;
         return Walked {
-            walk: behind,
-            end: list_end(s, w.end),
+            walk,
+            end: closed(s, w.end),
         };
     }
-    let there = has_fields(s, i, kind);
-    if there {} else {
-        return Walked { walk: n, end: i };
-    }
-    let w = field_rows::put_fields(s, i, q, n, fields, constraints);
-    let behind = w.walk;
+    let w = put_fields(s, i, n, fields, constraints);
+    let walk = w.walk;
     Walked {
-        walk: behind,
-        end: list_end(s, w.end),
+        walk,
+        end: closed(s, w.end),
+    }
+}
+
+// What stands in a declaration: its head, the walk behind its members, and where it ends.
+struct Parts {
+    head: Headed,
+    walk: Walk,
+    end: usize,
+}
+
+// The rows of the parts of a declaration whose head is h.
+fn put_parts(
+    s: &[u8],
+    at: usize,
+    kind: u64,
+    h: Header,
+    n: Walk,
+    fields: &mut [u64],
+    tags: &mut [u64],
+    constraints: &mut [u64],
+) -> Parts
+    requires { ⌜ Opened (now s) at kind h n ⌝ }
+    ensures { λ r. ⌜ GoesParts (now (s .entry)) at kind h n r (three (now (fields .entry)) (now (tags .entry)) (now (constraints .entry)))
+        (three (now (fields .exit)) (now (tags .exit)) (now (constraints .exit))) ⌝ }
+{
+    let head = put_head(s, at, h, n, constraints);
+    let behind = head.walk;
+    let close = h.at;
+    let e = at + grammar::taken(close);
+    let w = put_members(s, e, kind, behind, fields, tags, constraints);
+    let walk = w.walk;
+    Parts {
+        head,
+        walk,
+        end: w.end,
     }
 }
 
@@ -127,41 +183,39 @@ fn members(kind: u64, n: Walk) -> usize
     ensures { λ r. ⌜ r ≡ membersOf kind n ⌝ }
 {
     if kind == 1 {
-        return n.tags;
+        return walk::counted(n, walk::TAGS);
     }
-    n.fields
+    walk::counted(n, walk::FIELDS)
 }
 
-// A declaration's row: n is the walk before it, last the walk behind its members, end where it ends.
-fn row_of(
-    s: &[u8],
-    p: SourceLocation,
-    kind: u64,
-    end: usize,
-    head: Headed,
-    n: Walk,
-    last: Walk,
-) -> [u64; numbers::DECLARATION_WORDS]
-    requires { ⌜ Rowed (now s) p kind end head n last ⌝ }
-    ensures { λ r. ⌜ r ≡ declarationRow (now (s .entry)) p kind end head n last ⌝ }
+// A declaration's row, behind those of its parts x; n is the walk before it.
+fn put_row(s: &[u8], kind: u64, n: Walk, x: Parts, declarations: &mut [u64]) -> Walk
+    requires { ⌜ Rowed (now s) kind n x ⌝ }
+    ensures { λ r. ⌜ GoesRow (now (s .entry)) kind n x r (lend Table.declarations (now (declarations .entry)))
+        (lend Table.declarations (now (declarations .exit))) ⌝ }
 {
-    let q = text::move_to(s, p, end);
+    let head = x.head;
     let behind = head.walk;
+    let p = head.start;
     let id = head.id;
     let other = head.other;
     let width = head.width;
-    let count = members(kind, last) - members(kind, behind);
+    let inner = x.walk;
+    let last = walk::to(s, inner, x.end);
+    let q = last.here;
+    let count = members(kind, inner) - members(kind, behind);
     let first = walk::rows::first_of(members(kind, n), count);
-    let listed = behind.constraints - n.constraints;
-    let list = walk::rows::first_of(n.constraints, listed);
-    walk::rows::declaration_row(kind, p, q, id, other, width, first, count, list, listed)
+    let before = walk::counted(n, walk::CONSTRAINTS);
+    let listed = walk::counted(behind, walk::CONSTRAINTS) - before;
+    let list = walk::rows::first_of(before, listed);
+    let row = walk::rows::declaration_row(kind, p, q, id, other, width, first, count, list, listed);
+    walk::put(last, walk::DECLARATIONS, &row, declarations)
 }
 
-// One declaration of a kind that has a row: the rows of its parts are written, and then its own.
+// One declaration of a kind that has a row: the rows of its parts come to the door, and then its own.
 fn put_kind(
     s: &[u8],
     at: usize,
-    p: SourceLocation,
     kind: u64,
     n: Walk,
     declarations: &mut [u64],
@@ -169,39 +223,33 @@ fn put_kind(
     tags: &mut [u64],
     constraints: &mut [u64],
 ) -> Walked
-    requires { ⌜ ReadyKind (now s) at p kind n ⌝ }
-    ensures { λ r. ⌜ WroteOne (now (s .entry)) at n r (now (declarations .entry)) (now (declarations .exit)) (now (fields .entry)) (now (fields .exit)) (now (tags .entry)) (now (tags .exit)) (now (constraints .entry)) (now (constraints .exit)) ⌝ }
+    requires { ⌜ ReadyKind (now s) at kind n ⌝ }
+    ensures { λ r. ⌜ GoesOne (now (s .entry)) at n r (four (now (declarations .entry)) (now (fields .entry)) (now (tags .entry)) (now (constraints .entry)))
+        (four (now (declarations .exit)) (now (fields .exit)) (now (tags .exit)) (now (constraints .exit))) ⌝ }
 {
     let h = head_of(&s[at..], kind);
-    let close = h.at;
-    let e = at + grammar::taken(close);
-    let i = e + blanks(&s[e..]);
-    let q = text::move_to(s, p, i);
-    let head = put_head(s, at, p, h, n, constraints);
-    let behind = head.walk;
-    let w = put_members(s, i, q, kind, behind, fields, tags, constraints);
-    let m = w.walk;
-    let end = declaration_end(s, kind, e, w.end);
-    let row = row_of(s, p, kind, end, head, n, m);
+    let x = put_parts(s, at, kind, h, n, fields, tags, constraints);
+    let end = x.end;
     Walked {
-        walk: walk::put_declaration(m, row, declarations),
+        walk: put_row(s, kind, n, x, declarations),
         end,
     }
 }
 
 // One declaration, of the kind that its word tells. A test has no row.
+// Rust: parse_toplevel's match on the rule of a node.
 fn put_one(
     s: &[u8],
     at: usize,
-    p: SourceLocation,
     n: Walk,
     declarations: &mut [u64],
     fields: &mut [u64],
     tags: &mut [u64],
     constraints: &mut [u64],
 ) -> Walked
-    requires { ⌜ Ready (now s) at p n ⌝ }
-    ensures { λ r. ⌜ WroteOne (now (s .entry)) at n r (now (declarations .entry)) (now (declarations .exit)) (now (fields .entry)) (now (fields .exit)) (now (tags .entry)) (now (tags .exit)) (now (constraints .entry)) (now (constraints .exit)) ⌝ }
+    requires { ⌜ Ready (now s) at n ⌝ }
+    ensures { λ r. ⌜ GoesOne (now (s .entry)) at n r (four (now (declarations .entry)) (now (fields .entry)) (now (tags .entry)) (now (constraints .entry)))
+        (four (now (declarations .exit)) (now (fields .exit)) (now (tags .exit)) (now (constraints .exit))) ⌝ }
 {
     let kind = kind_at(&s[at..]);
     if kind == 0 {
@@ -211,34 +259,33 @@ fn put_one(
             end: at + grammar::taken(whole),
         };
     }
-    put_kind(s, at, p, kind, n, declarations, fields, tags, constraints)
+    put_kind(s, at, kind, n, declarations, fields, tags, constraints)
 }
 
-// All declarations behind j, up to the end of the source, from an empty state on.
+// All declarations behind j, up to the end of the source.
+// Rust: parse_toplevel.
 pub fn put_declarations(
     s: &[u8],
     j: usize,
-    p: SourceLocation,
+    n: Walk,
     declarations: &mut [u64],
     fields: &mut [u64],
     tags: &mut [u64],
     constraints: &mut [u64],
 ) -> Walk
-    requires { ⌜ Begun (now s) j p ⌝ }
-    ensures { λ r. ⌜ WroteAll (now (s .entry)) j r (now (declarations .entry)) (now (declarations .exit)) (now (fields .entry)) (now (fields .exit)) (now (tags .entry)) (now (tags .exit)) (now (constraints .entry)) (now (constraints .exit)) ⌝ }
+    requires { ⌜ Begun (now s) j n ⌝ }
+    ensures { λ r. ⌜ GoesAll (now (s .entry)) j n r (four (now (declarations .entry)) (now (fields .entry)) (now (tags .entry)) (now (constraints .entry)))
+        (four (now (declarations .exit)) (now (fields .exit)) (now (tags .exit)) (now (constraints .exit))) ⌝ }
 {
     let mut i = j;
-    let mut q = p;
-    let mut n = walk::nothing();
+    let mut m = n;
     loop {
         let at = i + blanks(&s[i..]);
         if at == s.len() {
-            return n;
+            return m;
         }
-        q = text::move_to(s, q, at);
-        let x = put_one(s, at, q, n, declarations, fields, tags, constraints);
-        n = x.walk;
+        let x = put_one(s, at, m, declarations, fields, tags, constraints);
+        m = x.walk;
         i = x.end;
-        q = text::move_to(s, q, i);
     }
 }

@@ -49,7 +49,8 @@ unfolding rules
 declaration-eats = refl
 
 -- the place from the three matches
-pub place-is : {t : List ℕ} {a b d : Match} {p : ℕ} → Reads file-start t a → Reads file-line t b → Reads file-head t d → p ≡ pick (hit b) (taken d) (taken a) → p ≡ placed t
+pub place-is : {t : List ℕ} {a b d : Match} {p : ℕ} → Reads file-start t a → Reads file-line t b → Reads file-head t d → p ≡ pick (hit b) (taken d) (taken a)
+    → p ≡ placed t
 place-is f l h e = e ∙ rw (f .is, l .is, h .is)
 
 -- ---- the same place by characters, as the meaning has it

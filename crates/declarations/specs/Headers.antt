@@ -35,4 +35,5 @@ custom-head = CUSTOM-FIELD ~ identifier ~ opt (text ":" ~ integer) ~ string
 
 -- r is the head that starts with the keyword's match k, whichever keyword that is
 pub record Heads (k : Match) (t : List ℕ) (r : Header) : Type 0 where
-  pub heads : (g : Peg) (j : Rule) → Follows (Took 0 0) g t k (λ o. leafAt j o (spanOf (Took 0 0) k)) → Draws (parent-head g) t (r .at) (λ o. drawHeader j o t r)
+  pub heads : (g : Peg) (j : Rule) → Follows (Took 0 0) g t k (λ o. leafAt j o (spanOf (Took 0 0) k))
+      → Draws (parent-head g) t (r .at) (λ o. drawHeader j o t r)

@@ -1,4 +1,4 @@
 pub mod Headers
-pub mod Kept
+pub mod HeadParts
 pub mod Kinds
 pub mod Files

@@ -16,11 +16,9 @@ use lexis::tokens::then_integer;
 use lexis::tokens::then_string;
 use meaning::Match;
 use spans::Header;
-use spans::Token;
+use spans::Part;
 use spans::between;
-use spans::kept_span;
-use spans::kept_token;
-use spans::nowhere;
+use spans::kept_part;
 
 // `enum`, the id, the width, and the brace.
 pub fn enum_head(s: &[u8]) -> Header
@@ -36,10 +34,10 @@ pub fn enum_head(s: &[u8]) -> Header
         at: next_literal(s, width, b"{"),
         keyword: between(start, k),
         id: between(a, id),
-        parent: Token::Absent,
-        width: Token::Integer(between(b, width)),
-        function: Token::Absent,
-        constraints: nowhere(),
+        parent: Part::Absent,
+        width: Part::Here(between(b, width)),
+        function: Part::Absent,
+        constraints: Part::Absent,
     }
 }
 
@@ -62,10 +60,10 @@ fn parent_head(s: &[u8], k: Match) -> Header
         at: next_literal(s, settle(s, d, closed), b"{"),
         keyword: between(start, k),
         id: between(a, id),
-        parent: kept_token(parent, Token::Identifier(between(c, parent))),
-        width: Token::Absent,
-        function: Token::Absent,
-        constraints: kept_span(closed, between(e, list)),
+        parent: kept_part(parent, Part::Here(between(c, parent))),
+        width: Part::Absent,
+        function: Part::Absent,
+        constraints: kept_part(closed, Part::Here(between(e, list))),
     }
 }
 
@@ -95,10 +93,10 @@ pub fn group_head(s: &[u8]) -> Header
         at: next_literal(s, id, b"{"),
         keyword: between(start, k),
         id: between(a, id),
-        parent: Token::Absent,
-        width: Token::Absent,
-        function: Token::Absent,
-        constraints: nowhere(),
+        parent: Part::Absent,
+        width: Part::Absent,
+        function: Part::Absent,
+        constraints: Part::Absent,
     }
 }
 
@@ -118,10 +116,10 @@ pub fn checksum_head(s: &[u8]) -> Header
         at,
         keyword: between(start, k),
         id: between(a, id),
-        parent: Token::Absent,
-        width: Token::Integer(between(b, width)),
-        function: Token::Text(between(c, at)),
-        constraints: nowhere(),
+        parent: Part::Absent,
+        width: Part::Here(between(b, width)),
+        function: Part::Here(between(c, at)),
+        constraints: Part::Absent,
     }
 }
 
@@ -142,9 +140,9 @@ pub fn custom_field_head(s: &[u8]) -> Header
         at,
         keyword: between(start, k),
         id: between(a, id),
-        parent: Token::Absent,
-        width: kept_token(width, Token::Integer(between(c, width))),
-        function: Token::Text(between(d, at)),
-        constraints: nowhere(),
+        parent: Part::Absent,
+        width: kept_part(width, Part::Here(between(c, width))),
+        function: Part::Here(between(d, at)),
+        constraints: Part::Absent,
     }
 }

@@ -9,17 +9,7 @@ use Rattle.meaning.specs.Rules.{Rule}
 use Rattle.meaning.specs.Tables.{Table, Item, row, rowsOf, count, firstOf}
 use Rattle.meaning.specs.Rows.{field-words}
 use Rattle.meaning.specs.Walk.{Part, node, part, following, place, name, optional, numbers, constraint-number, constraint-row, parse-constraint-list, Desc, described, parse-field, parse-field-list}
-use Rattle.walk.specs.Counts.{count-append}
-
--- some items with k constraints
-abbrev pub soFar : ℕ → List Item
-soFar zero = []
-soFar (suc k) = row Table.constraints [] ∷ soFar k
-
-pub soFar-count : (k : ℕ) → count Table.constraints (soFar k) ≡ k
-unfolding rowsOf
-soFar-count zero = refl
-soFar-count (suc k) = omega (arith, soFar-count k)
+use Rattle.walk.specs.Steps.{count-append}
 
 -- ---- one field by its description, what follows it, and the count before it
 abbrev pub shape : List Item → List Item → List Item → List Item → List ℕ → List Item
@@ -30,7 +20,8 @@ rows src d = count Table.constraints (parse-constraint-list src (d .group))
 
 unfoldable pub fieldBy : List ℕ → ℕ → Desc → Part → ℕ → ℕ → List Item
 fieldBy src k d if s l =
-    shape (pick (if .found) (constraint-number src if) []) (numbers src (d .ints)) (parse-constraint-list src (d .group)) (pick (if .found) (constraint-row src if) [])
+    shape (pick (if .found) (constraint-number src if) []) (numbers src (d .ints)) (parse-constraint-list src (d .group))
+    (pick (if .found) (constraint-row src if) [])
     (field-words (d .kind) (place src s l) (name (d .a)) (name (d .b)) (name (d .c)) (optional src (d .na)) (optional src (d .nb))
     (firstOf k (rows src d)) (rows src d) (pick (if .found) (k + rows src d + 1) 0))
 
@@ -40,7 +31,8 @@ unfolding parse-field fieldBy
 field-by src xs s l kids more = refl
 
 -- a list of fields depends on the items before it only through their count
-pub same-list : (src : List ℕ) (xs ys : List Item) (w : Forest) → count Table.constraints xs ≡ count Table.constraints ys → parse-field-list src xs w ≡ parse-field-list src ys w
+pub same-list : (src : List ℕ) (xs ys : List Item) (w : Forest) → count Table.constraints xs ≡ count Table.constraints ys
+    → parse-field-list src xs w ≡ parse-field-list src ys w
 unfolding parse-field-list
 same-list src xs ys nil e = refl
 same-list src xs ys (tree r s l k more) e =
@@ -48,4 +40,5 @@ same-list src xs ys (tree r s l k more) e =
     = field-by src xs s l k more ∙ ap (λ (n : ℕ). fieldBy src n (described k) (part Rule.constraint (following k)) s l) e ∙ sym (field-by src ys s l k more) in
     ap₂ _++_ f
     (same-list src (xs ++ parse-field src xs (node s l k more)) (ys ++ parse-field src ys (node s l k more)) more
-    (count-append Table.constraints xs (parse-field src xs (node s l k more)) ∙ ap₂ _+_ e (ap (count Table.constraints) f) ∙ sym (count-append Table.constraints ys (parse-field src ys (node s l k more)))))
+    (count-append Table.constraints xs (parse-field src xs (node s l k more)) ∙ ap₂ _+_ e (ap (count Table.constraints) f)
+    ∙ sym (count-append Table.constraints ys (parse-field src ys (node s l k more)))))

@@ -1,10 +1,6 @@
-pub mod DescParts
+pub mod DescTerms
 pub mod DescHeld
-pub mod Halves
 pub mod Counts
+pub mod Halves
 pub mod Items
 pub mod Fields
-pub mod FieldLaws
-pub mod OneField
-pub mod Lists
-pub mod ListLaws

@@ -1,141 +1,124 @@
-// What a field's description says: its kind, the tokens of its row, and where a group's constraints stand.
+// What a field's description says: its kind, its names a, b, c and its numbers a, b; and the list of a group.
 ghost use mathlib.Core.Path.{_≡_};
-ghost use Rattle.spans.specs.Drawn.{onlyName};
-ghost use Rattle.spans.specs.declared.FieldDesc.the-variants.{Array, Group};
-ghost use Rattle.spans.specs.declared.Token.the-variants.{Integer};
-ghost use Rattle.field_rows.specs.DescParts.{parts, none, partsOf};
-use spans::Element;
+ghost use Prim.Native.Nat.{_-_, _≤_};
+ghost use lib.ListN.{length};
+ghost use Rattle.walk.specs.Terms.{noNumber, noName};
+ghost use Rattle.field_rows.specs.DescTerms.{terms, describedAs, groupOf, InsideDesc};
 use spans::FieldDesc;
-use spans::Span;
-use spans::Token;
-use spans::nowhere;
-
-// The kind, the tokens of names a, b, c and of numbers a, b, and the place of a group's constraints.
-pub struct Parts {
-    pub kind: u64,
-    pub a: Token,
-    pub b: Token,
-    pub c: Token,
-    pub na: Token,
-    pub nb: Token,
-    pub group: Span,
-}
-
-// A token that may name a field, the payload or the body.
-fn only_name(token: Token) -> Token
-    ensures { λ r. ⌜ r ≡ onlyName token ⌝ }
-{
-    match token {
-        Token::Identifier(x) => Token::Identifier(x),
-        Token::PayloadIdentifier(x) => Token::PayloadIdentifier(x),
-        Token::BodyIdentifier(x) => Token::BodyIdentifier(x),
-        Token::Absent => Token::Absent,
-        Token::Integer(_) => Token::Absent,
-        Token::Text(_) => Token::Absent,
-        Token::SizeModifier(_) => Token::Absent,
-    }
-}
+use spans::Part;
+use walk::Described;
+use walk::Name;
+use walk::Number;
+use walk::terms::no_name;
+use walk::terms::no_number;
+use walk::terms::operand_name;
+use walk::terms::operand_number;
+use walk::terms::part_name;
+use walk::terms::size_name;
+use walk::terms::size_number;
+use walk::terms::span_name;
+use walk::terms::span_number;
+use walk::terms::target_name;
 
 // Names alone.
-fn named(kind: u64, a: Token, b: Token, c: Token) -> Parts
-    ensures { λ r. ⌜ r ≡ parts kind a b c none none ⌝ }
+fn named(kind: u64, a: Name, b: Name, c: Name) -> Described
+    ensures { λ r. ⌜ r ≡ terms kind a b c noNumber noNumber ⌝ }
 {
-    Parts {
+    Described {
         kind,
         a,
         b,
         c,
-        na: Token::Absent,
-        nb: Token::Absent,
-        group: nowhere(),
+        na: no_number(),
+        nb: no_number(),
     }
 }
 
-// A name, if there is one, and numbers, of which the first is always there.
-fn sized(kind: u64, a: Token, na: Span, nb: Token) -> Parts
-    ensures { λ r. ⌜ r ≡ parts kind a none none (Integer na) nb ⌝ }
+// A name, if there is one, and numbers.
+fn sized(kind: u64, a: Name, na: Number, nb: Number) -> Described
+    ensures { λ r. ⌜ r ≡ terms kind a noName noName na nb ⌝ }
 {
-    Parts {
+    Described {
         kind,
         a,
-        b: Token::Absent,
-        c: Token::Absent,
-        na: Token::Integer(na),
+        b: no_name(),
+        c: no_name(),
+        na,
         nb,
-        group: nowhere(),
     }
 }
 
-// An array: its elements have a width or a type, its size is a modifier, a number or missing.
-fn array(id: Span, element: Element, size: Token) -> Parts
-    ensures { λ r. ⌜ r ≡ partsOf (Array id element size) ⌝ }
+// What a description says, by its kind; its spans are counted from `at`.
+pub fn describe(s: &[u8], at: usize, desc: FieldDesc) -> Described
+    requires { ⌜ (at ≤ length (now s)) × InsideDesc (length (now s) - at) desc ⌝ }
+    ensures { λ r. ⌜ r ≡ describedAs (now (s .entry)) at desc ⌝ }
 {
-    match element {
-        Element::Width(x) => Parts {
-            kind: 11,
-            a: Token::Identifier(id),
-            b: Token::Absent,
-            c: size,
-            na: Token::Integer(x),
-            nb: size,
-            group: nowhere(),
-        },
-        Element::Named(x) => Parts {
-            kind: 11,
-            a: Token::Identifier(id),
-            b: Token::Identifier(x),
-            c: size,
-            na: Token::Absent,
-            nb: size,
-            group: nowhere(),
-        },
-    }
-}
-
-// A group with its constraints.
-fn group(id: Span, list: Span) -> Parts
-    ensures { λ r. ⌜ r ≡ partsOf (Group id list) ⌝ }
-{
-    Parts {
-        kind: 14,
-        a: Token::Identifier(id),
-        b: Token::Absent,
-        c: Token::Absent,
-        na: Token::Absent,
-        nb: Token::Absent,
-        group: list,
-    }
-}
-
-// The parts of a description, by its kind.
-pub fn parts_of(desc: FieldDesc) -> Parts
-    ensures { λ r. ⌜ r ≡ partsOf desc ⌝ }
-{
-    let no = Token::Absent;
+    let n = s.len() - at;
+    let no = no_name();
+    let zero = no_number();
     match desc {
-        FieldDesc::Checksum(id) => named(1, Token::Identifier(id), no, no),
-        FieldDesc::Padding(size) => sized(2, no, size, no),
-        FieldDesc::Size(id, width) => sized(3, only_name(id), width, no),
-        FieldDesc::Count(id, width) => sized(4, Token::Identifier(id), width, no),
-        FieldDesc::ElementSize(id, width) => sized(5, Token::Identifier(id), width, no),
+        FieldDesc::Checksum(id) => named(1, span_name(at, id), no, no),
+        FieldDesc::Padding(size) => sized(2, no, span_number(s, at, size), zero),
+        FieldDesc::Size(id, width) => sized(
+            3,
+            target_name(at, n, id),
+            span_number(s, at, width),
+            zero,
+        ),
+        FieldDesc::Count(id, width) => sized(4, span_name(at, id), span_number(s, at, width), zero),
+        FieldDesc::ElementSize(id, width) => sized(
+            5,
+            span_name(at, id),
+            span_number(s, at, width),
+            zero,
+        ),
         FieldDesc::Body => named(6, no, no, no),
-        FieldDesc::Payload(modifier) => named(7, no, no, modifier),
-        FieldDesc::FixedScalar(value, width) => sized(8, no, width, Token::Integer(value)),
-        FieldDesc::FixedEnum(tag, name) => named(
-            9,
-            Token::Identifier(name),
-            Token::Identifier(tag),
+        FieldDesc::Payload(modifier) => named(7, no, no, part_name(at, n, modifier)),
+        FieldDesc::FixedScalar(value, width) => sized(
+            8,
             no,
+            span_number(s, at, width),
+            span_number(s, at, value),
         ),
-        FieldDesc::Reserved(width) => sized(10, no, width, no),
-        FieldDesc::Array(id, element, size) => array(id, element, size),
-        FieldDesc::Scalar(id, width) => sized(12, Token::Identifier(id), width, no),
-        FieldDesc::Typedef(id, name) => named(
-            13,
-            Token::Identifier(id),
-            Token::Identifier(name),
-            no,
+        FieldDesc::FixedEnum(tag, name) => named(9, span_name(at, name), span_name(at, tag), no),
+        FieldDesc::Reserved(width) => sized(10, no, span_number(s, at, width), zero),
+        FieldDesc::Array(id, element, size) => Described {
+            kind: 11,
+            a: span_name(at, id),
+            b: operand_name(at, n, element),
+            c: size_name(at, n, size),
+            na: operand_number(s, at, element),
+            nb: size_number(s, at, size),
+        },
+        FieldDesc::Scalar(id, width) => sized(
+            12,
+            span_name(at, id),
+            span_number(s, at, width),
+            zero,
         ),
-        FieldDesc::Group(id, list) => group(id, list),
+        FieldDesc::Typedef(id, name) => named(13, span_name(at, id), span_name(at, name), no),
+        FieldDesc::Group(id, _) => named(14, span_name(at, id), no, no),
+    }
+}
+
+// The constraints of a group; no other description has any.
+pub fn group_of(desc: FieldDesc) -> Part
+    ensures { λ r. ⌜ r ≡ groupOf desc ⌝ }
+{
+    match desc {
+        FieldDesc::Checksum(_) => Part::Absent,
+        FieldDesc::Padding(_) => Part::Absent,
+        FieldDesc::Size(_, _) => Part::Absent,
+        FieldDesc::Count(_, _) => Part::Absent,
+        FieldDesc::ElementSize(_, _) => Part::Absent,
+        FieldDesc::Body => Part::Absent,
+        FieldDesc::Payload(_) => Part::Absent,
+        FieldDesc::FixedScalar(_, _) => Part::Absent,
+        FieldDesc::FixedEnum(_, _) => Part::Absent,
+        FieldDesc::Reserved(_) => Part::Absent,
+        FieldDesc::Array(_, _, _) => Part::Absent,
+        FieldDesc::Scalar(_, _) => Part::Absent,
+        FieldDesc::Typedef(_, _) => Part::Absent,
+        FieldDesc::Group(_, list) => list,
     }
 }

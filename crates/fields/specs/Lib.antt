@@ -1,3 +1,2 @@
 pub mod Kinds
-pub mod Kept
 pub mod Words

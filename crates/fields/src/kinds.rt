@@ -4,14 +4,15 @@ ghost use Rattle.meaning.specs.Pdl.{checksum-field, padding-field, size-field, 
 ghost use Rattle.grammar.specs.Drawing.{Draws};
 ghost use Rattle.spans.specs.Drawn.{drawDesc};
 use crate::parts::counted;
+use crate::parts::kept_size;
 use crate::parts::next_byte;
 use crate::parts::next_number;
 use crate::parts::then_element;
-use crate::parts::then_field_name;
 use crate::parts::then_labelled;
 use crate::parts::then_names;
 use crate::parts::then_numbers;
 use crate::parts::then_size;
+use crate::parts::then_target;
 use constraints::then_constraint_list;
 use grammar::settle;
 use lexis::blanks::then_blanks;
@@ -22,10 +23,9 @@ use lexis::tokens::then_size_modifier;
 use meaning::Match;
 use spans::DescMatch;
 use spans::FieldDesc;
-use spans::Token;
+use spans::Part;
 use spans::between;
-use spans::kept_span;
-use spans::kept_token;
+use spans::kept_part;
 
 // `_checksum_start_(id)`
 pub fn checksum_field(s: &[u8]) -> DescMatch
@@ -58,15 +58,15 @@ pub fn size_field(s: &[u8]) -> DescMatch
     ensures { λ r. ⌜ Draws size-field (now (s .entry)) (r .at) (λ o. drawDesc o (now (s .entry)) (taken (r .at)) (r .desc)) ⌝ }
 {
     let b = then_blanks(s, next_byte(s, literal(s, b"_size_"), b'('));
-    let id = then_field_name(s, b);
+    let id = then_target(s, b);
     let a = id.at;
-    let token = id.token;
+    let target = id.target;
     let width = next_number(s, next_byte(s, next_byte(s, a, b')'), b':'));
     let at = width.at;
     let span = width.span;
     DescMatch {
         at,
-        desc: FieldDesc::Size(token, span),
+        desc: FieldDesc::Size(target, span),
     }
 }
 
@@ -119,7 +119,7 @@ pub fn payload_field(s: &[u8]) -> DescMatch
     let at = settle(s, b, x);
     DescMatch {
         at,
-        desc: FieldDesc::Payload(kept_token(x, Token::SizeModifier(between(c, d)))),
+        desc: FieldDesc::Payload(kept_part(x, Part::Here(between(c, d)))),
     }
 }
 
@@ -170,14 +170,14 @@ pub fn array_field(s: &[u8]) -> DescMatch
     let b = then_blanks(s, next_byte(s, a, b':'));
     let kind = then_element(s, b);
     let c = kind.at;
-    let element = kind.element;
+    let element = kind.operand;
     let d = then_blanks(s, next_byte(s, c, b'['));
     let size = then_size(s, d);
     let x = size.at;
-    let token = size.token;
+    let found = size.size;
     let at = next_byte(s, settle(s, d, x), b']');
     let id = between(start, a);
-    let kept = kept_token(x, token);
+    let kept = kept_size(x, found);
     DescMatch {
         at,
         desc: FieldDesc::Array(id, element, kept),
@@ -224,9 +224,9 @@ pub fn group_field(s: &[u8]) -> DescMatch
     let list = then_constraint_list(s, c);
     let braces = next_byte(s, settle(s, c, list), b'}');
     let at = settle(s, b, braces);
-    let span = kept_span(list, between(c, list));
+    let inner = kept_part(list, Part::Here(between(c, list)));
     DescMatch {
         at,
-        desc: FieldDesc::Group(between(start, a), kept_span(braces, span)),
+        desc: FieldDesc::Group(between(start, a), kept_part(braces, inner)),
     }
 }

@@ -10,7 +10,7 @@ ghost use Rattle.grammar.specs.Matching.{Within, Reads, Steps};
 ghost use Rattle.grammar.specs.Drawing.{Draws};
 ghost use Rattle.spans.specs.Drawn.{drawDesc, drawField};
 ghost use Rattle.fields.specs.Kinds.{word-fields, fieldOf, OrDesc};
-ghost use Rattle.fields.specs.Kept.{absentConstraint};
+ghost use Rattle.spans.specs.declared.Condition.the-variants.{Always, If};
 use crate::kinds::array_field;
 use crate::kinds::body_field;
 use crate::kinds::checksum_field;
@@ -32,12 +32,11 @@ use lexis::blanks::then_last_comma;
 use lexis::texts::literal;
 use lexis::texts::then_literal;
 use meaning::Match;
+use spans::Condition;
 use spans::Constraint;
 use spans::DescMatch;
 use spans::FieldDesc;
 use spans::FieldMatch;
-use spans::Token;
-use spans::nowhere;
 
 // The rules of a description, in the order of the choice.
 pub enum FieldKind {
@@ -175,19 +174,15 @@ pub fn field_desc(s: &[u8]) -> DescMatch
     )
 }
 
-// The condition c of a field, whose match is x.
-fn kept_constraint(x: Match, c: Constraint) -> Constraint
-    ensures { λ r. ⌜ r ≡ pick (hit x) c absentConstraint ⌝ }
+// The condition of a field, where the constraint c was matched as x.
+fn kept_condition(x: Match, c: Constraint) -> Condition
+    ensures { λ r. ⌜ r ≡ pick (hit x) (If c) Always ⌝ }
 {
     let there = grammar::took(x);
     if there {
-        return c;
+        return Condition::If(c);
     }
-    Constraint {
-        span: nowhere(),
-        id: nowhere(),
-        value: Token::Absent,
-    }
+    Condition::Always
 }
 
 // A field: its description, and its condition if there is one. Without one it ends after the blanks behind it.
@@ -204,7 +199,7 @@ pub fn field(s: &[u8]) -> FieldMatch
     FieldMatch {
         at,
         desc,
-        cond: kept_constraint(x, constraint),
+        cond: kept_condition(x, constraint),
     }
 }
 

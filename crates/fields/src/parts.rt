@@ -1,13 +1,16 @@
 // The parts that the kinds of fields share: a name or a number after blanks, a word with a name in parentheses, two tokens
 // with a colon between them, and choices of tokens.
+ghost use mathlib.Core.Path.{_≡_};
 ghost use mathlib.Core.List.{[], _∷_};
+ghost use Rattle.meaning.specs.Choice.{pick};
 ghost use Rattle.meaning.specs.Rules.{Rule};
-ghost use Rattle.meaning.specs.Peg.{seq, lit};
+ghost use Rattle.meaning.specs.Peg.{seq, lit, hit};
 ghost use Rattle.meaning.specs.Pdl.{text, _~_, _∣_, skip, identifier, payload-identifier, body-identifier, integer, size-modifier};
 ghost use Rattle.meaning.specs.Forest.{_⊕_};
 ghost use Rattle.grammar.specs.Matching.{Within, Steps};
 ghost use Rattle.grammar.specs.Drawing.{Draws, Follows};
-ghost use Rattle.spans.specs.Drawn.{leafAt, drawToken, onlyName, drawElement};
+ghost use Rattle.spans.specs.Drawn.{leafAt, drawOperand, drawArraySize, drawTarget};
+ghost use Rattle.spans.specs.declared.ArraySize.the-variants.{Unknown};
 use grammar::settle;
 use lexis::blanks::next_literal;
 use lexis::blanks::then_blanks;
@@ -18,10 +21,11 @@ use lexis::tokens::then_integer;
 use lexis::tokens::then_payload_identifier;
 use lexis::tokens::then_size_modifier;
 use meaning::Match;
-use spans::Element;
+use spans::ArraySize;
+use spans::Operand;
+use spans::OperandMatch;
 use spans::Span;
-use spans::Token;
-use spans::TokenMatch;
+use spans::Target;
 use spans::between;
 
 // A match with one token, and with two.
@@ -73,7 +77,8 @@ pub fn next_number(s: &[u8], m: Match) -> Leaf
 // A word and a name in parentheses, where m ends.
 pub fn then_labelled(s: &[u8], m: Match, word: &[u8]) -> Leaf
     requires { ⌜ Within m (now s) ⌝ }
-    ensures { λ r. ⌜ Follows m (lit (now (word .entry)) ~ text "(" ~ identifier ~ text ")") (now (s .entry)) (r .at) (λ o. leafAt Rule.identifier o (r .span)) ⌝ }
+    ensures { λ r. ⌜ Follows m (lit (now (word .entry)) ~ text "(" ~ identifier ~ text ")") (now (s .entry)) (r .at) (λ o. leafAt Rule.identifier o (r .span))
+        ⌝ }
 {
     let id = next_name(s, next_byte(s, then_literal(s, m, word), b'('));
     let a = id.at;
@@ -86,7 +91,8 @@ pub fn then_labelled(s: &[u8], m: Match, word: &[u8]) -> Leaf
 
 // A word, a name in parentheses, a colon and a width: a count or an element size.
 pub fn counted(s: &[u8], word: &[u8]) -> Pair
-    ensures { λ r. ⌜ Draws (lit (now (word .entry)) ~ text "(" ~ identifier ~ text ")" ~ text ":" ~ integer) (now (s .entry)) (r .at) (λ o. leafAt Rule.identifier o (r .first) ⊕ leafAt Rule.integer o (r .second)) ⌝ }
+    ensures { λ r. ⌜ Draws (lit (now (word .entry)) ~ text "(" ~ identifier ~ text ")" ~ text ":" ~ integer) (now (s .entry)) (r .at)
+        (λ o. leafAt Rule.identifier o (r .first) ⊕ leafAt Rule.integer o (r .second)) ⌝ }
 {
     let id = then_labelled(s, Match::Took(0, 0), word);
     let a = id.at;
@@ -100,7 +106,8 @@ pub fn counted(s: &[u8], word: &[u8]) -> Pair
 // Two names with a colon between them, where m ends.
 pub fn then_names(s: &[u8], m: Match) -> Pair
     requires { ⌜ Within m (now s) ⌝ }
-    ensures { λ r. ⌜ Follows m (identifier ~ text ":" ~ identifier) (now (s .entry)) (r .at) (λ o. leafAt Rule.identifier o (r .first) ⊕ leafAt Rule.identifier o (r .second)) ⌝ }
+    ensures { λ r. ⌜ Follows m (identifier ~ text ":" ~ identifier) (now (s .entry)) (r .at) (λ o. leafAt Rule.identifier o (r .first)
+        ⊕ leafAt Rule.identifier o (r .second)) ⌝ }
 {
     let a = then_identifier(s, m);
     let name = next_name(s, next_byte(s, a, b':'));
@@ -116,7 +123,8 @@ pub fn then_names(s: &[u8], m: Match) -> Pair
 // Two numbers with a colon between them, where m ends.
 pub fn then_numbers(s: &[u8], m: Match) -> Pair
     requires { ⌜ Within m (now s) ⌝ }
-    ensures { λ r. ⌜ Follows m (integer ~ text ":" ~ integer) (now (s .entry)) (r .at) (λ o. leafAt Rule.integer o (r .first) ⊕ leafAt Rule.integer o (r .second)) ⌝ }
+    ensures { λ r. ⌜ Follows m (integer ~ text ":" ~ integer) (now (s .entry)) (r .at) (λ o. leafAt Rule.integer o (r .first)
+        ⊕ leafAt Rule.integer o (r .second)) ⌝ }
 {
     let a = then_integer(s, m);
     let number = next_number(s, next_byte(s, a, b':'));
@@ -129,75 +137,92 @@ pub fn then_numbers(s: &[u8], m: Match) -> Pair
     }
 }
 
-// The name that a size is of: a field's, the payload's or the body's, where m ends.
-pub fn then_field_name(s: &[u8], m: Match) -> TokenMatch
+// What a size is of, and an array's size.
+pub struct TargetMatch {
+    pub at: Match,
+    pub target: Target,
+}
+
+pub struct SizeMatch {
+    pub at: Match,
+    pub size: ArraySize,
+}
+
+// What a size is of: a field, the payload or the body, where m ends.
+pub fn then_target(s: &[u8], m: Match) -> TargetMatch
     requires { ⌜ Within m (now s) ⌝ }
-    ensures { λ r. ⌜ Follows m (identifier ∣ payload-identifier ∣ body-identifier) (now (s .entry)) (r .at) (λ o. drawToken o (onlyName (r .token))) ⌝ }
+    ensures { λ r. ⌜ Follows m (identifier ∣ payload-identifier ∣ body-identifier) (now (s .entry)) (r .at) (λ o. drawTarget o (r .target)) ⌝ }
 {
     let x = then_identifier(s, m);
     if let Match::Took(_, _) = x {
-        return TokenMatch {
+        return TargetMatch {
             at: x,
-            token: Token::Identifier(between(m, x)),
+            target: Target::OfField(between(m, x)),
         };
     }
     let b = settle(s, m, x);
     let y = then_payload_identifier(s, b);
     if let Match::Took(_, _) = y {
-        return TokenMatch {
+        return TargetMatch {
             at: y,
-            token: Token::PayloadIdentifier(between(b, y)),
+            target: Target::OfPayload(between(b, y)),
         };
     }
     let c = settle(s, m, y);
     let z = then_body_identifier(s, c);
-    TokenMatch {
+    TargetMatch {
         at: z,
-        token: Token::BodyIdentifier(between(c, z)),
+        target: Target::OfBody(between(c, z)),
     }
 }
 
 // An array's element: a width or a type, where m ends.
-pub struct ElementMatch {
-    pub at: Match,
-    pub element: Element,
-}
-
-pub fn then_element(s: &[u8], m: Match) -> ElementMatch
+pub fn then_element(s: &[u8], m: Match) -> OperandMatch
     requires { ⌜ Within m (now s) ⌝ }
-    ensures { λ r. ⌜ Follows m (integer ∣ identifier) (now (s .entry)) (r .at) (λ o. drawElement o (r .element)) ⌝ }
+    ensures { λ r. ⌜ Follows m (integer ∣ identifier) (now (s .entry)) (r .at) (λ o. drawOperand o (r .operand)) ⌝ }
 {
     let x = then_integer(s, m);
     if let Match::Took(_, _) = x {
-        return ElementMatch {
+        return OperandMatch {
             at: x,
-            element: Element::Width(between(m, x)),
+            operand: Operand::Integer(between(m, x)),
         };
     }
     let b = settle(s, m, x);
     let y = then_identifier(s, b);
-    ElementMatch {
+    OperandMatch {
         at: y,
-        element: Element::Named(between(b, y)),
+        operand: Operand::Identifier(between(b, y)),
     }
 }
 
 // An array's size: a modifier or a number, where m ends.
-pub fn then_size(s: &[u8], m: Match) -> TokenMatch
+pub fn then_size(s: &[u8], m: Match) -> SizeMatch
     requires { ⌜ Within m (now s) ⌝ }
-    ensures { λ r. ⌜ Follows m (size-modifier ∣ integer) (now (s .entry)) (r .at) (λ o. drawToken o (r .token)) ⌝ }
+    ensures { λ r. ⌜ Follows m (size-modifier ∣ integer) (now (s .entry)) (r .at) (λ o. drawArraySize o (r .size)) ⌝ }
 {
     let x = then_size_modifier(s, m);
     if let Match::Took(_, _) = x {
-        return TokenMatch {
+        return SizeMatch {
             at: x,
-            token: Token::SizeModifier(between(m, x)),
+            size: ArraySize::Modifier(between(m, x)),
         };
     }
     let b = settle(s, m, x);
     let y = then_integer(s, b);
-    TokenMatch {
+    SizeMatch {
         at: y,
-        token: Token::Integer(between(b, y)),
+        size: ArraySize::Known(between(b, y)),
     }
+}
+
+// The size of an optional part, whose match is x.
+pub fn kept_size(x: Match, size: ArraySize) -> ArraySize
+    ensures { λ r. ⌜ r ≡ pick (hit x) size Unknown ⌝ }
+{
+    let there = grammar::took(x);
+    if there {
+        return size;
+    }
+    ArraySize::Unknown
 }

@@ -47,7 +47,8 @@ prefix-short (x ∷ l) (y ∷ t) (suc n) h = go (eqb x y) (λ e. prefix-short l 
     go false i e = refl
 
 -- ---- the line takes the whole word
-line-long : (t : List ℕ) → prefixb little t ≡ true → hit (run (bytewise endianness-declaration) t) ≡ true → length little ≤ taken (run (bytewise endianness-declaration) t)
+line-long : (t : List ℕ) → prefixb little t ≡ true → hit (run (bytewise endianness-declaration) t) ≡ true
+    → length little ≤ taken (run (bytewise endianness-declaration) t)
 unfolding run endianness-declaration
 line-long t e h = go (prefixb little t) e h
   where
@@ -62,7 +63,8 @@ line-long t e h = go (prefixb little t) e h
     go true e h = omega (arith, taken-join (length little) 0 (p (drop (length little) t)) (sym (hit-join (length little) 0 (p (drop (length little) t))) ∙ h))
     go false e h = absurd (let z : _≡_ {A = ℕ} 0 1 = cc in omega arith)
 
-line-says : (t : List ℕ) → hit (run (bytewise endianness-declaration) t) ≡ true → prefixb little (take (taken (run (bytewise endianness-declaration) t)) t) ≡ prefixb little t
+line-says : (t : List ℕ) → hit (run (bytewise endianness-declaration) t) ≡ true
+    → prefixb little (take (taken (run (bytewise endianness-declaration) t)) t) ≡ prefixb little t
 line-says t h = go (prefixb little t) refl
   where
     go : (b : Bool) → prefixb little t ≡ b → prefixb little (take (taken (run (bytewise endianness-declaration) t)) t) ≡ prefixb little t
@@ -103,7 +105,8 @@ line-words {src} m =
     (line-says (drop (line-start src) src) (line-hit src (m .hits)))
 
 -- x is the line, k is said at its start, p and q are its places
-pub endianness-done : {src : List ℕ} {x : Line} {k : ℕ} {p q : SourceLocation} → Matched src → Lined src x → k ≡ said (take (length src - x .start) (drop (x .start) src))
+pub endianness-done : {src : List ℕ} {x : Line} {k : ℕ} {p q : SourceLocation} → Matched src → Lined src x
+    → k ≡ said (take (length src - x .start) (drop (x .start) src))
     → p ≡ placeAt src (x .start) → q ≡ placeAt src (x .end)
     → k ∷ p .offset ∷ p .line ∷ p .column ∷ q .offset ∷ q .line ∷ q .column ∷ [] ≡ endianness src (whole src)
 endianness-done {src} {x} {k} {p} {q} m h e i j =

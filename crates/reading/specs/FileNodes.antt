@@ -118,7 +118,8 @@ module _ (t : List ℕ) where
     line-taken = taken-after start (λ u. run (bytewise endianness-declaration) u) t hit-line
 
     file-kids : part Rule.file (nodes (bytewise file) 0 t) .kids
-        ≡ tree Rule.endianness-declaration (line-start t) (line-length t) nil (rest t (line-end t) ⊕ tree Rule.EOI (0 + taken last) (taken end - taken last) nil nil)
+        ≡ tree Rule.endianness-declaration (line-start t) (line-length t) nil
+        (rest t (line-end t) ⊕ tree Rule.EOI (0 + taken last) (taken end - taken last) nil nil)
     unfolding rest line-start
     file-kids =
         let e : taken start + line-length t - taken start ≡ line-length t = omega arith in
@@ -131,7 +132,8 @@ module _ (t : List ℕ) where
         let h-last : hit last ≡ true = hit-before last (λ u. run (bytewise EOI) u) t hit-end in
         let h-more : hit more ≡ true = hit-before more (λ u. run (bytewise skip) u) t h-last in
         let m : taken more ≡ line-end t + taken (run (bytewise (seq skip (repeat declaration))) (drop (line-end t) t))
-        = taken-after line (λ u. run (bytewise (seq skip (repeat declaration))) u) t h-more ∙ ap (λ (i : ℕ). i + taken (run (bytewise (seq skip (repeat declaration))) (drop i t))) line-taken in
+        = taken-after line (λ u. run (bytewise (seq skip (repeat declaration))) u) t h-more
+        ∙ ap (λ (i : ℕ). i + taken (run (bytewise (seq skip (repeat declaration))) (drop i t))) line-taken in
         let d : drop (taken more) t ≡ drop (taken (run (bytewise (seq skip (repeat declaration))) (drop (line-end t) t))) (drop (line-end t) t)
         = ap (λ (i : ℕ). drop i t) m ∙ sym (drop-drop (taken (run (bytewise (seq skip (repeat declaration))) (drop (line-end t) t))) (line-end t) t) in
         omega (
@@ -161,4 +163,5 @@ end-adds src w s l = toplevel-⊕ src [] w (tree Rule.EOI s l nil nil) ∙ appen
 pub file-walk : (t : List ℕ) → hit (run (bytewise file) t) ≡ true
     → parse-toplevel t [] (part Rule.file (nodes (bytewise file) 0 t) .kids) ≡ parse-toplevel t [] (rest t (line-end t))
 unfolding parse-toplevel
-file-walk t h = ap (λ (w : Forest). parse-toplevel t [] w) (file-kids t h) ∙ end-adds t (rest t (line-end t)) (0 + taken (last t)) (taken (end t) - taken (last t))
+file-walk t h =
+    ap (λ (w : Forest). parse-toplevel t [] w) (file-kids t h) ∙ end-adds t (rest t (line-end t)) (0 + taken (last t)) (taken (end t) - taken (last t))

@@ -53,7 +53,8 @@ numbered src = go (ltb longest (length src)) (ltb (valid src) (length src)) (eva
     go true b x = (omega arith, omega arith)
     go false true x = (omega arith, omega arith)
     go false false (missed f) = (omega arith, omega arith)
-    go false false (took n f w) = whether (eqb (firstBad (items src w) .reason) 0) (endianness src w) (items src w) (firstBad (items src w) .place) (firstBad (items src w) .reason)
+    go false false (took n f w) = whether (eqb (firstBad (items src w) .reason) 0) (endianness src w) (items src w) (firstBad (items src w) .place)
+        (firstBad (items src w) .reason)
 
 module _ (l : Lent) where
   settled : (r : Reading) → Numbered r → Orderly l (settle r l)
@@ -69,7 +70,14 @@ module _ (l : Lent) where
     where
       go : (b : Bool) → Orderly l (pick b (stored e xs l) (settle (refused 5 (short all xs l) (needed all xs l)) l))
       go true =
-          record { number = omega arith; accepted = λ z. (refl, refl); tables = λ z. absurd (z refl); counts = λ z. absurd (z refl); endianness = λ z. absurd (z refl) }
+          record {
+            number = omega arith;
+            accepted = λ z. (refl, refl);
+            tables = λ z. absurd (z refl);
+            counts = λ z. absurd (z refl);
+            endianness = λ z. absurd
+                (z refl);
+          }
       go false =
           record { number = omega arith; accepted = λ z. absurd (omega arith); tables = λ z. refl; counts = λ z. refl; endianness = λ z. refl }
 
@@ -90,7 +98,8 @@ module _ (src : List ℕ) (l : Lent) where
   -- the rows of an accepted reading, its counts and its endianness are those of the grammar's forest
   pub rows : Acceptable src l → answer src l ≡ stored (endianness src (whole src)) (items src (whole src)) l
   rows h =
-      let e : eqb (short all (items src (whole src)) l) 0 ≡ true = eq-eqb (short all (items src (whole src)) l) 0 (none-short (items src (whole src)) l (h .tables)) in
+      let e : eqb (short all (items src (whole src)) l) 0
+      ≡ true = eq-eqb (short all (items src (whole src)) l) 0 (none-short (items src (whole src)) l (h .tables)) in
       answer-is (h .source) ∙ rw e
 
   pub accepted-if : Acceptable src l → answer src l .answer .number ≡ 0
@@ -112,7 +121,8 @@ module _ (src : List ℕ) (l : Lent) where
       xs : List Item
       xs = items src (whole src)
 
-      go : (b : Bool) → eqb (short all xs l) 0 ≡ b → pick b (stored (endianness src (whole src)) xs l) (settle (refused 5 (short all xs l) (needed all xs l)) l) .answer .number ≡ 0 → short all xs l ≡ 0
+      go : (b : Bool) → eqb (short all xs l) 0 ≡ b
+          → pick b (stored (endianness src (whole src)) xs l) (settle (refused 5 (short all xs l) (needed all xs l)) l) .answer .number ≡ 0 → short all xs l ≡ 0
       go true e k = eqb-true (short all xs l) 0 e
       go false e k = absurd (omega arith)
 
@@ -175,7 +185,8 @@ module _ (src : List ℕ) (l l' : Lent) (longer : (t : Table) → room (size t) 
       go (accepted e xs) n = by-room e xs (eqb (short all xs l) 0) refl n
 
   pub same-words : answer src l .answer .number ≡ 0 → (t : Table)
-      → take (count t (items src (whole src)) * size t) (lent t (answer src l' .left)) ≡ take (count t (items src (whole src)) * size t) (lent t (answer src l .left))
+      → take (count t (items src (whole src)) * size t) (lent t (answer src l' .left))
+      ≡ take (count t (items src (whole src)) * size t) (lent t (answer src l .left))
   same-words h t =
       let a : Acceptable src l = accepted-only src l h in
       words src l' (record { source = a .source; tables = roomier (items src (whole src)) (a .tables) }) t ∙ sym (words src l a t)

@@ -1,23 +1,28 @@
 -- The walk over the declarations of a file that matches reaches the end of the source.
-use Prim.Native.Nat.{ℕ, _+_}
+use Prim.Native.Nat.{ℕ, _+_, _≤_}
 use native.Mathlib.Omega.{arith}
-use mathlib.Core.Path.{_≡_, ap, subst, sym}
+use mathlib.Core.Path.{_≡_, refl, ap, subst, sym}
 use mathlib.Core.List.{List}
 use mathlib.Core.Bool.{true}
-use lib.ListN.{drop}
+use lib.ListN.{length, drop}
 use lib.Seq.{drop-drop}
-use Rattle.meaning.specs.declared.SourceLocation.{SourceLocation}
 use Rattle.meaning.specs.Peg.{seq, star, run, bytewise, hit, taken}
 use Rattle.meaning.specs.Pdl.{repeat, skip, declaration, file}
-use Rattle.meaning.specs.Places.{placeAt}
+use Rattle.meaning.specs.Tables.{rowsOf}
 use Rattle.grammar.specs.Lists.{repeat-end}
+use Rattle.text.specs.PlaceLaws.{placeAt-start}
 use Rattle.lexis.specs.Skips.{hit-skip, skip-twice}
 use Rattle.declarations.specs.Files.{declaration-eats}
+use Rattle.walk.specs.declared.Door.{Door}
+use Rattle.walk.specs.declared.Door.the-variants.{Count, Write}
+use Rattle.walk.specs.declared.Walk.{Walk}
+use Rattle.walk.specs.State.{fresh, Near, At}
 use Rattle.declaration_rows.specs.Lists.{last, Reaches, Begun}
 use Rattle.reading.specs.declared.files.Line.{Line}
 use Rattle.reading.specs.Lines.{line-end, Lined}
 use Rattle.reading.specs.FileNodes.{ends-there}
 use Rattle.reading.specs.Matched.{Matched}
+use Rattle.reading.specs.Totals.{no-count}
 
 -- n bytes and the blanks behind them
 abbrev blanked : List ℕ → ℕ → ℕ
@@ -37,13 +42,25 @@ reaches t h =
       arith,
       ends-there t h,
       same-end (drop (line-end t) t),
-      ap (λ (v : List ℕ). taken (run (bytewise skip) v)) (drop-drop (taken (run (star (bytewise (seq skip declaration))) (drop (line-end t) t))) (line-end t) t),
+      ap (λ (v : List ℕ). taken (run (bytewise skip) v))
+          (drop-drop (taken (run (star (bytewise (seq skip declaration))) (drop (line-end t) t))) (line-end t) t),
     )
 
-pub walk-ready : {src : List ℕ} {x : Line} {p : SourceLocation} → Matched src → Lined src x → p ≡ placeAt src (x .end) → Begun src (x .end) p
-walk-ready {src} {x} m h e =
-    record {
-      within = omega (arith, h .ends, h .within);
-      here = e;
+-- the first place is that of offset 0
+fresh-near : (d : Door) (src : List ℕ) (k : ℕ) → Near d src k (fresh d .here)
+unfolding Near
+fresh-near Count src k = tt
+fresh-near Write src k = (sym (placeAt-start src), omega arith)
+
+fresh-at : (d : Door) (src : List ℕ) (k : ℕ) → k ≤ length src → At src k (fresh d)
+fresh-at d src k h = record { within = h; sized = refl; few = λ t. omega (arith, no-count d t); near = fresh-near d src k }
+
+pub walk-ready : {src : List ℕ} {x : Line} {d : Door} {n : Walk} → Matched src → Lined src x → n ≡ fresh d → Begun src (x .end) n
+unfolding rowsOf
+walk-ready {src} {x} {d} {n} m h e =
+    subst (λ (w : Walk). Begun src (x .end) w) (sym e)
+    (record {
+      came = fresh-at d src (x .end) (omega (arith, h .ends, h .within));
       reaches = subst (λ (i : ℕ). Reaches src i) (sym (h .ends)) (reaches src (m .hits));
-    }
+      nothing = record { counts = λ t. sym (no-count d t) };
+    })

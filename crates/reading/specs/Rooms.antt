@@ -21,10 +21,12 @@ Roomy xs l = (t : Table) → count t xs ≤ room (size t) (lent t l)
 abbrev first : Bool → Bool → Bool → Bool → Bool → ℕ
 first a b c d e = pick a 1 (pick b 2 (pick c 3 (pick d 4 (pick e 5 0))))
 
-none-lacking : (f : Table → Bool) → first (f Table.declarations) (f Table.fields) (f Table.tags) (f Table.constraints) (f Table.comments) ≡ 0 → (t : Table) → f t ≡ false
+none-lacking : (f : Table → Bool) → first (f Table.declarations) (f Table.fields) (f Table.tags) (f Table.constraints) (f Table.comments) ≡ 0
+    → (t : Table) → f t ≡ false
 none-lacking f h = go (f Table.declarations) (f Table.fields) (f Table.tags) (f Table.constraints) (f Table.comments) refl refl refl refl refl h
   where
-    go : (a b c d e : Bool) → f Table.declarations ≡ a → f Table.fields ≡ b → f Table.tags ≡ c → f Table.constraints ≡ d → f Table.comments ≡ e → first a b c d e ≡ 0
+    go : (a b c d e : Bool) → f Table.declarations ≡ a → f Table.fields ≡ b → f Table.tags ≡ c → f Table.constraints ≡ d → f Table.comments ≡ e
+        → first a b c d e ≡ 0
         → (t : Table) → f t ≡ false
     go true b c d e p q r s u h t = absurd (omega arith)
     go false true c d e p q r s u h t = absurd (omega arith)
@@ -58,7 +60,8 @@ some-words Table.tags = omega arith
 some-words Table.constraints = omega arith
 some-words Table.comments = omega arith
 
-pub first-words : (xs : List Item) (l : Lent) (t : Table) → Sized (size t) (rowsOf t xs) → count t xs ≤ room (size t) (lent t l) → take (count t xs * size t) (filled xs l t) ≡ flat (rowsOf t xs)
+pub first-words : (xs : List Item) (l : Lent) (t : Table) → Sized (size t) (rowsOf t xs) → count t xs ≤ room (size t) (lent t l)
+    → take (count t xs * size t) (filled xs l t) ≡ flat (rowsOf t xs)
 first-words xs l t z h =
     let k : count t xs * size t ≤ length (lent t l) = le-div-iff-mul-le (some-words t) .0 h in
     ap (take (count t xs * size t)) (puts-all (size t) (rowsOf t xs) (lent t l) z k)

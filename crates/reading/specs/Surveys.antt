@@ -1,11 +1,12 @@
 -- What the checks before any writing say: a reading's refusal, or the rows that each table needs, and the first table that
 -- lacks some.
 use Prim.Native.Nat.{ℕ, _/_}
+use mathlib.Core.Path.{_≡_}
 use mathlib.Core.List.{List}
 use lib.ListN.{getD}
 use lib.Dec.{ltb}
 use Rattle.meaning.specs.Choice.{pick}
-use Rattle.meaning.specs.Tables.{Table, number, size, count}
+use Rattle.meaning.specs.Tables.{Table, number, size, count, Lent}
 use Rattle.meaning.specs.Reading.{Reading, refused, accepted}
 use Rattle.reading.specs.declared.Survey.{Survey}
 use Rattle.reading.specs.declared.Short.{Short}
@@ -24,6 +25,11 @@ surveyed (accepted e xs) =
       constraints = count Table.constraints xs;
       comments = count Table.comments xs;
     }
+
+-- x tells the reading y, and the tables are as they were lent
+pub record Surveyed (y : Reading) (x : Survey) (a b : Lent) : Type 0 where
+  pub is : x ≡ surveyed y
+  pub same : b ≡ a
 
 -- the table lacks some of the rows needed; or else what the others say
 abbrev pub lacks : Table → ℕ → ℕ → Short → Short

@@ -6,12 +6,14 @@ ghost use Rattle.meaning.specs.Places.{placeAt};
 ghost use Rattle.meaning.specs.Walk.{endianness};
 ghost use Rattle.reading.specs.Lines.{Lined};
 ghost use Rattle.reading.specs.Matched.{Matched, whole, declared};
-ghost use Rattle.reading.specs.Totals.{totals, Tabled};
+ghost use Rattle.declaration_rows.specs.Ways.{four};
+ghost use Rattle.reading.specs.Totals.{Tabled};
 ghost use Rattle.reading.specs.Endianness.{said};
 use ast::numbers;
 use declarations::files::endianness_declaration;
 use lexis::blanks::blanks;
 use meaning::SourceLocation;
+use walk::Door;
 use walk::Walk;
 
 // The endianness line: where it starts and where it ends.
@@ -76,36 +78,21 @@ pub fn endianness(s: &[u8]) -> [u64; numbers::ENDIANNESS_WORDS]
     ]
 }
 
-// The rows of all declarations.
+// The rows of all declarations: they are counted, or counted and written. The first integer that does not convert is noted.
 pub fn put_file(
     s: &[u8],
+    door: Door,
     declarations: &mut [u64],
     fields: &mut [u64],
     tags: &mut [u64],
     constraints: &mut [u64],
 ) -> Walk
     requires { ⌜ Matched (now s) ⌝ }
-    ensures { λ r. ⌜ Tabled (declared (now (s .entry))) r (now (declarations .entry)) (now (declarations .exit)) (now (fields .entry)) (now (fields .exit)) (now (tags .entry)) (now (tags .exit)) (now (constraints .entry)) (now (constraints .exit)) ⌝ }
+    ensures { λ r. ⌜ Tabled (declared (now (s .entry))) door r
+        (four (now (declarations .entry)) (now (fields .entry)) (now (tags .entry)) (now (constraints .entry)))
+        (four (now (declarations .exit)) (now (fields .exit)) (now (tags .exit)) (now (constraints .exit))) ⌝ }
 {
     let x = line_of(s);
-    let p = place_of(s, x.end);
-    declaration_rows::put_declarations(s, x.end, p, declarations, fields, tags, constraints)
-}
-
-// The same walk over tables that hold no row: it counts, and meets the first integer that does not convert.
-pub fn count_file(s: &[u8]) -> Walk
-    requires { ⌜ Matched (now s) ⌝ }
-    ensures { λ r. ⌜ r ≡ totals (declared (now (s .entry))) ⌝ }
-{
-    let mut declarations = [0u64; 1];
-    let mut fields = [0u64; 1];
-    let mut tags = [0u64; 1];
-    let mut constraints = [0u64; 1];
-    put_file(
-        s,
-        &mut declarations,
-        &mut fields,
-        &mut tags,
-        &mut constraints,
-    )
+    let n = walk::nothing(door);
+    declaration_rows::put_declarations(s, x.end, n, declarations, fields, tags, constraints)
 }

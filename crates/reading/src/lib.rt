@@ -8,14 +8,15 @@ ghost use mathlib.Core.Path.{_≡_};
 ghost use Rattle.meaning.specs.Walk.{endianness};
 ghost use Rattle.meaning.specs.Reading.{refused, walked, reading, answer};
 ghost use Rattle.reading.specs.Matched.{Matched, whole};
-ghost use Rattle.reading.specs.Surveys.{surveyed, shortOf};
+ghost use Rattle.reading.specs.Surveys.{surveyed, Surveyed, shortOf};
 ghost use Rattle.reading.specs.Outcomes.{lending, outcome, refusing, accepting};
-use crate::files::count_file;
 use crate::files::endianness;
 use crate::files::put_file;
 use ast::numbers;
+use comments::put_comments;
 use declarations::files::file;
 use meaning::longest;
+use walk::Door;
 
 mod files;
 
@@ -76,30 +77,49 @@ fn refused(number: u64, place: usize, reason: u64) -> Survey
     }
 }
 
-// The rows of a source that the grammar matches, or its first integer that does not convert.
-fn survey_rows(s: &[u8]) -> Survey
+// The rows of a source that the grammar matches, or its first integer that does not convert. No row is written.
+fn survey_rows(
+    s: &[u8],
+    declarations: &mut [u64],
+    fields: &mut [u64],
+    tags: &mut [u64],
+    constraints: &mut [u64],
+    comments: &mut [u64],
+) -> Survey
     requires { ⌜ Matched (now s) ⌝ }
-    ensures { λ r. ⌜ r ≡ surveyed (walked (now (s .entry)) (whole (now (s .entry)))) ⌝ }
+    ensures { λ r. ⌜ Surveyed (walked (now (s .entry)) (whole (now (s .entry)))) r
+        (lending (now (declarations .entry)) (now (fields .entry)) (now (tags .entry)) (now (constraints .entry)) (now (comments .entry)))
+        (lending (now (declarations .exit)) (now (fields .exit)) (now (tags .exit)) (now (constraints .exit)) (now (comments .exit))) ⌝ }
 {
-    let n = count_file(s);
+    let n = put_file(s, Door::Count, declarations, fields, tags, constraints);
     if n.reason != 0 {
         return refused(numbers::NOT_CONVERTED, n.place, n.reason);
     }
+    let c = put_comments(s, Door::Count, comments);
     Survey {
         number: 0,
         place: 0,
         reason: 0,
-        declarations: n.declarations,
-        fields: n.fields,
-        tags: n.tags,
-        constraints: n.constraints,
-        comments: comments::count_comments(s),
+        declarations: walk::counted(n, walk::DECLARATIONS),
+        fields: walk::counted(n, walk::FIELDS),
+        tags: walk::counted(n, walk::TAGS),
+        constraints: walk::counted(n, walk::CONSTRAINTS),
+        comments: walk::counted(c, walk::COMMENTS),
     }
 }
 
-// Checks 1 to 4, each over the whole source.
-fn survey_of(s: &[u8]) -> Survey
-    ensures { λ r. ⌜ r ≡ surveyed (reading (now (s .entry))) ⌝ }
+// Checks 1 to 4, each over the whole source. No word of a table is changed.
+fn survey_of(
+    s: &[u8],
+    declarations: &mut [u64],
+    fields: &mut [u64],
+    tags: &mut [u64],
+    constraints: &mut [u64],
+    comments: &mut [u64],
+) -> Survey
+    ensures { λ r. ⌜ Surveyed (reading (now (s .entry))) r
+        (lending (now (declarations .entry)) (now (fields .entry)) (now (tags .entry)) (now (constraints .entry)) (now (comments .entry)))
+        (lending (now (declarations .exit)) (now (fields .exit)) (now (tags .exit)) (now (constraints .exit)) (now (comments .exit))) ⌝ }
 {
     let most = longest();
     if most < s.len() {
@@ -115,7 +135,7 @@ fn survey_of(s: &[u8]) -> Survey
     if matched {} else {
         return refused(numbers::NO_MATCH, f.place, 0);
     }
-    survey_rows(s)
+    survey_rows(s, declarations, fields, tags, constraints, comments)
 }
 
 // The first table that is too short, by the lengths of all in words.
@@ -179,6 +199,7 @@ fn accepted(s: &[u8], x: Survey) -> Answer
 }
 
 // Reads a source into five lent tables of words. Checks 1, 2, 3, 4 and 5 in that order; a refused reading changes no word.
+// Rust: parse_inline.
 pub fn read(
     src: &[u8],
     declarations: &mut [u64],
@@ -187,9 +208,11 @@ pub fn read(
     constraints: &mut [u64],
     comments: &mut [u64],
 ) -> Answer
-    ensures { λ r. ⌜ outcome r (now (declarations .exit)) (now (fields .exit)) (now (tags .exit)) (now (constraints .exit)) (now (comments .exit)) ≡ answer (now (src .entry)) (lending (now (declarations .entry)) (now (fields .entry)) (now (tags .entry)) (now (constraints .entry)) (now (comments .entry))) ⌝ }
+    ensures { λ r. ⌜ outcome r (now (declarations .exit)) (now (fields .exit)) (now (tags .exit)) (now (constraints .exit)) (now (comments .exit))
+        ≡ answer (now (src .entry))
+        (lending (now (declarations .entry)) (now (fields .entry)) (now (tags .entry)) (now (constraints .entry)) (now (comments .entry))) ⌝ }
 {
-    let x = survey_of(src);
+    let x = survey_of(src, declarations, fields, tags, constraints, comments);
     if x.number != 0 {
         return refusal(x.number, x.place as u64, x.reason);
     }
@@ -204,7 +227,7 @@ pub fn read(
     if t.table != 0 {
         return refusal(numbers::TOO_FEW_ROWS, t.table, t.needed as u64);
     }
-    put_file(src, declarations, fields, tags, constraints);
-    comments::write_comments(src, comments);
+    put_file(src, Door::Write, declarations, fields, tags, constraints);
+    put_comments(src, Door::Write, comments);
     accepted(src, x)
 }

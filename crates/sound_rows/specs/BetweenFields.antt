@@ -11,7 +11,7 @@ use Rattle.meaning.specs.Forest.{Forest, nil, tree}
 use Rattle.meaning.specs.Tables.{Table, Item, rowsOf, count}
 use Rattle.meaning.specs.Walk.{Part, node, part, following, each, number, numbers, value-of, constraint-number, constraint-row, parse-constraint-list, Desc, no, desc, sized, fixed, array, describe, described, parse-field, parse-field-list}
 use Rattle.text.specs.PlaceLaws.{offset-is}
-use Rattle.walk.specs.Counts.{count-append}
+use Rattle.walk.specs.Steps.{count-append}
 use Rattle.sound_rows.specs.Placement.{Known, Fit, bare, grown, higher, wider, upward}
 use Rattle.sound_rows.specs.Slots.{Nodes, Made, nothing, some-fit, Slot, slot, slot-then, slot-or, found-node}
 use Rattle.sound_rows.specs.Between.{Between, between-none, between-++, between-in, between-last, between-numbers}

@@ -17,7 +17,7 @@ use Rattle.meaning.specs.Moving.{members}
 use Rattle.meaning.specs.Walk.{Part, node, part, following, each, place, name, unquoted, optional, number, numbers, constraint-number, constraint-row, parse-constraint-list, parse-enum-tag, described, parse-field, parse-field-list, kinds, kindIn, parse-declaration, parse-kind, parse-toplevel, comments, items}
 use Rattle.meaning.specs.Reading.{Reading, refused, accepted, reading}
 use Rattle.meaning.specs.Everything.{everything}
-use Rattle.walk.specs.Counts.{count-append}
+use Rattle.walk.specs.Steps.{count-append}
 use Rattle.reading.specs.Matched.{whole, declared}
 use Rattle.reading.specs.Accepts.{Accepts}
 use Rattle.sound_rows.specs.EveryRow.{Every, none, a-row, Free, every-++, every-pick, every-each, at-row, of-comments, of-number, of-numbers, of-constraint-number, of-constraint-row, of-constraints, of-enum-tag}

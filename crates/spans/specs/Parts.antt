@@ -1,15 +1,18 @@
--- The single parts of a rule, as steps with their nodes: punctuation and blanks leave none, a token leaves one.
+-- The single parts of a rule, as steps with their nodes: punctuation and blanks leave none, a token leaves one, and a part that
+-- may be absent leaves those of what is kept of it.
 use Prim.Native.Nat.{ℕ}
-use mathlib.Core.Path.{_≡_, refl}
+use mathlib.Core.Path.{_≡_, refl, ap, sym, _∙_}
 use mathlib.Core.List.{List}
+use mathlib.Core.Bool.{Bool, true, false}
 use Rattle.meaning.specs.declared.Match.{Match}
+use Rattle.meaning.specs.Choice.{pick}
 use Rattle.meaning.specs.Rules.{Rule}
-use Rattle.meaning.specs.Peg.{lit, seq, bytewise}
-use Rattle.meaning.specs.Forest.{nil, nodes}
+use Rattle.meaning.specs.Peg.{Peg, lit, seq, opt, bytewise, hit}
+use Rattle.meaning.specs.Forest.{Forest, nil, nodes}
 use Rattle.meaning.specs.Pdl.{WHITESPACE, block-comment, line-comment, COMMENT, skip, identifier, payload-identifier, body-identifier, integer, string, size-modifier}
-use Rattle.grammar.specs.Matching.{Steps}
+use Rattle.grammar.specs.Matching.{Within, Steps, stay}
 use Rattle.grammar.specs.Silence.{none-of}
-use Rattle.grammar.specs.Drawing.{Follows, blank, leaf}
+use Rattle.grammar.specs.Drawing.{Follows, blank, leaf, maybe, retold}
 use Rattle.lexis.specs.Leaves.{skip-none, lit-none, identifier-leaf, payload-identifier-leaf, body-identifier-leaf, integer-leaf, string-leaf, size-modifier-leaf}
 use Rattle.spans.specs.Spans.{spanOf}
 use Rattle.spans.specs.Drawn.{leafAt}
@@ -48,3 +51,12 @@ module _ {m : Match} {t : List ℕ} {r : Match} where
 
   pub modifier : Steps m size-modifier t r → Follows m size-modifier t r (λ o. leafAt Rule.size-modifier o (spanOf m r))
   modifier s = leaf size-modifier-leaf s
+
+-- an optional part whose match is y; k is what is kept of x
+pub optional : {A : Type 0} {m : Match} {g : Peg} {t : List ℕ} {y r : Match} (draw : A → ℕ → Forest) (absent x : A) {k : A} → ((o : ℕ) → draw absent o ≡ nil)
+    → Within m t → Follows m g t y (λ o. draw x o) → r ≡ stay m y → k ≡ pick (hit y) x absent → Follows m (opt g) t r (λ o. draw k o)
+optional {A} {m} {g} {t} {y} {r} draw absent x {k} none w f e q = retold (maybe w f e) (λ h o. go (hit y) o ∙ ap (λ (z : A). draw z o) (sym q))
+  where
+    go : (b : Bool) (o : ℕ) → pick b (draw x o) nil ≡ draw (pick b x absent) o
+    go true o = refl
+    go false o = sym (none o)

@@ -6,6 +6,3 @@ use Rattle.spans.specs.declared.Span.{Span}
 
 abbrev pub spanOf : Match → Match → Span
 spanOf m r = record { start = taken m; len = taken r - taken m }
-
-abbrev pub absentSpan : Span
-absentSpan = record { start = 0; len = 0 }

@@ -3,44 +3,59 @@
 ghost use mathlib.Core.Path.{_≡_};
 ghost use Rattle.meaning.specs.Choice.{pick};
 ghost use Rattle.meaning.specs.Peg.{hit};
-ghost use Rattle.spans.specs.Spans.{spanOf, absentSpan};
-ghost use Rattle.spans.specs.declared.Token.the-variants.{Absent};
+ghost use Rattle.spans.specs.Spans.{spanOf};
+ghost use Rattle.spans.specs.declared.Part.the-variants.{Absent};
 use meaning::Match;
 
-// A part's first byte and its length. A part that is not there has length 0.
+// A part's first byte and its length.
 pub struct Span {
     pub start: usize,
     pub len: usize,
 }
 
-// A part that is one token, by its rule, or is not there.
-pub enum Token {
+// A part that may be absent: a header's parent, width, function or list, a range's or a group's list, a payload's modifier.
+pub enum Part {
     Absent,
+    Here(Span),
+}
+
+// A name or a number: a constraint's value, an array's element.
+pub enum Operand {
     Identifier(Span),
-    PayloadIdentifier(Span),
-    BodyIdentifier(Span),
     Integer(Span),
-    Text(Span),
-    SizeModifier(Span),
 }
 
-// What an array's elements are: so many bits, or of a type.
-pub enum Element {
-    Width(Span),
-    Named(Span),
+// An array's size: none, a modifier or a number.
+pub enum ArraySize {
+    Unknown,
+    Modifier(Span),
+    Known(Span),
 }
 
-// A choice of tokens.
-pub struct TokenMatch {
+// What `_size_` names: a field, the payload or the body.
+pub enum Target {
+    OfField(Span),
+    OfPayload(Span),
+    OfBody(Span),
+}
+
+// The match of a name or a number.
+pub struct OperandMatch {
     pub at: Match,
-    pub token: Token,
+    pub operand: Operand,
 }
 
 // A constraint (ast::Constraint): its own place, its id, and the tag's name or the integer.
 pub struct Constraint {
     pub span: Span,
     pub id: Span,
-    pub value: Token,
+    pub value: Operand,
+}
+
+// When a field is there: always, or where a constraint holds.
+pub enum Condition {
+    Always,
+    If(Constraint),
 }
 
 pub struct ConstraintMatch {
@@ -48,7 +63,7 @@ pub struct ConstraintMatch {
     pub constraint: Constraint,
 }
 
-// The tags of an enum (ast::Tag): a value, a range with the place of its inner list, the default.
+// The tags of an enum (ast::Tag): a value, a range with its inner list, the default.
 pub struct TagValue {
     pub id: Span,
     pub value: Span,
@@ -58,7 +73,7 @@ pub struct TagRange {
     pub id: Span,
     pub start: Span,
     pub end: Span,
-    pub tags: Span,
+    pub tags: Part,
 }
 
 pub struct TagOther {
@@ -80,18 +95,18 @@ pub struct TagMatch {
 pub enum FieldDesc {
     Checksum(Span),
     Padding(Span),
-    Size(Token, Span),
+    Size(Target, Span),
     Count(Span, Span),
     ElementSize(Span, Span),
     Body,
-    Payload(Token),
+    Payload(Part),
     FixedScalar(Span, Span),
     FixedEnum(Span, Span),
     Reserved(Span),
-    Array(Span, Element, Token),
+    Array(Span, Operand, ArraySize),
     Scalar(Span, Span),
     Typedef(Span, Span),
-    Group(Span, Span),
+    Group(Span, Part),
 }
 
 pub struct DescMatch {
@@ -99,11 +114,11 @@ pub struct DescMatch {
     pub desc: FieldDesc,
 }
 
-// A whole field: its description and its condition, whose span has length 0 where there is none.
+// A whole field: its description and its condition.
 pub struct FieldMatch {
     pub at: Match,
     pub desc: DescMatch,
-    pub cond: Constraint,
+    pub cond: Condition,
 }
 
 // The head of a declaration up to its first list or its end: what the row of a declaration needs.
@@ -111,10 +126,10 @@ pub struct Header {
     pub at: Match,
     pub keyword: Span,
     pub id: Span,
-    pub parent: Token,
-    pub width: Token,
-    pub function: Token,
-    pub constraints: Span,
+    pub parent: Part,
+    pub width: Part,
+    pub function: Part,
+    pub constraints: Part,
 }
 
 // From where m ended to where r ends.
@@ -132,31 +147,13 @@ pub fn between(m: Match, r: Match) -> Span
     }
 }
 
-// A part that is not there.
-pub fn nowhere() -> Span
-    ensures { λ x. ⌜ x ≡ absentSpan ⌝ }
-{
-    Span { start: 0, len: 0 }
-}
-
-// The span of an optional part, whose match is x.
-pub fn kept_span(x: Match, span: Span) -> Span
-    ensures { λ r. ⌜ r ≡ pick (hit x) span absentSpan ⌝ }
+// A part, where the match x that it stands in took.
+pub fn kept_part(x: Match, part: Part) -> Part
+    ensures { λ r. ⌜ r ≡ pick (hit x) part Absent ⌝ }
 {
     let there = grammar::took(x);
     if there {
-        return span;
+        return part;
     }
-    nowhere()
-}
-
-// The token of an optional part, whose match is x.
-pub fn kept_token(x: Match, token: Token) -> Token
-    ensures { λ r. ⌜ r ≡ pick (hit x) token Absent ⌝ }
-{
-    let there = grammar::took(x);
-    if there {
-        return token;
-    }
-    Token::Absent
+    Part::Absent
 }

@@ -1,257 +1,243 @@
 // The rows of an enum's tags: one value, one range with its values, the default, and the lists of them as the walk goes.
-ghost use Prim.Native.Nat.{_+_, _≤_};
-ghost use lib.ListN.{length};
-ghost use Rattle.meaning.specs.Peg.{taken};
-ghost use Rattle.meaning.specs.Pdl.{enum-value};
-ghost use Rattle.tag_rows.specs.Tags.{values, tags, itemsOf, listItems, stop, Done, WroteList, valueItems, innerItems, rangeItems, otherItems};
-ghost use Rattle.tag_rows.specs.Placed.{PlacedValue, PlacedInner, PlacedRange, PlacedOther, Met, Begun, Listed, Nexts};
+ghost use Prim.Native.Nat.{_+_};
+ghost use mathlib.Core.Path.{_≡_};
+ghost use mathlib.Core.List.{[], _∷_};
+ghost use Rattle.meaning.specs.Tables.{Table, row};
+ghost use Rattle.walk.specs.State.{lend, Goes};
+ghost use Rattle.walk.specs.Lists.{GoesOne, GoesAll, GoesList};
+ghost use Rattle.tag_rows.specs.Tags.{values, tags, rowWords, valueItems, otherItems, rangeItems, Placed, PlacedValue, PlacedRange, Ready, Braced, Begins, Counted, placed};
 use meaning::SourceLocation;
+use spans::Part;
 use spans::Span;
 use spans::Tag;
 use spans::TagMatch;
 use spans::TagOther;
 use spans::TagRange;
 use spans::TagValue;
+use walk::Door;
+use walk::Number;
 use walk::Walk;
 use walk::Walked;
 
-// A value, alone or inside a range by its kind: its number is noted, its row is written.
-pub fn put_value(
+// The row of a tag of len bytes at `at`; its numbers were noted before.
+fn put_row(
     s: &[u8],
     at: usize,
-    p: SourceLocation,
+    len: usize,
+    kind: u64,
+    id: Span,
+    v: Number,
+    e: Number,
+    inner: usize,
+    n: Walk,
+    t: &mut [u64],
+) -> Walk
+    requires { ⌜ Placed (now s) at len id n ⌝ }
+    ensures { λ r. ⌜ Goes (row Table.tags (rowWords (now (s .entry)) at len kind id v e inner) ∷ []) (now (s .entry)) (at + len) n r
+        (lend Table.tags (now (t .entry))) (lend Table.tags (now (t .exit))) ⌝ }
+{
+    let a = walk::to(s, n, at);
+    let b = walk::to(s, a, at + len);
+    let p = a.here;
+    let q = b.here;
+    let name = walk::terms::span_name(at, id);
+    let row = walk::rows::tag_row(kind, p, q, name, v, e, inner);
+    walk::put(b, walk::TAGS, &row, t)
+}
+
+// A value, alone or inside a range by its kind: its number is noted, its row comes to the door.
+// Rust: parse_enum_value.
+fn put_value(
+    s: &[u8],
+    at: usize,
     len: usize,
     kind: u64,
     v: TagValue,
     n: Walk,
     t: &mut [u64],
 ) -> Walk
-    requires { ⌜ PlacedValue (now s) at p len v n ⌝ }
-    ensures { λ r. ⌜ Done (valueItems (now (s .entry)) kind at len v) (at + len) n r (now (t .entry)) (now (t .exit)) ⌝ }
+    requires { ⌜ PlacedValue (now s) at len v n ⌝ }
+    ensures { λ r. ⌜ Goes (valueItems (now (s .entry)) kind at len v) (now (s .entry)) (at + len) n r
+        (lend Table.tags (now (t .entry))) (lend Table.tags (now (t .exit))) ⌝ }
 {
     let value = v.value;
-    let x = walk::said::integer_at(s, at + value.start, value.len);
-    let q = text::move_to(s, p, at + len);
-    let id = walk::said::span_name(at, v.id);
-    let row = walk::rows::tag_row(kind, p, q, id, x, walk::said::no_number(), 0);
-    walk::put_tag(walk::note(n, x), row, t)
+    let x = walk::terms::integer_at(s, at + value.start, value.len);
+    let none = walk::terms::no_number();
+    put_row(s, at, len, kind, v.id, x, none, 0, walk::note(n, x), t)
 }
 
 // The default: a row without numbers.
-pub fn put_other(
-    s: &[u8],
-    at: usize,
-    p: SourceLocation,
-    len: usize,
-    x: TagOther,
-    n: Walk,
-    t: &mut [u64],
-) -> Walk
-    requires { ⌜ PlacedOther (now s) at p len x n ⌝ }
-    ensures { λ r. ⌜ Done (otherItems (now (s .entry)) at len x) (at + len) n r (now (t .entry)) (now (t .exit)) ⌝ }
+// Rust: parse_enum_other.
+fn put_other(s: &[u8], at: usize, len: usize, x: TagOther, n: Walk, t: &mut [u64]) -> Walk
+    requires { ⌜ Placed (now s) at len (x .id) n ⌝ }
+    ensures { λ r. ⌜ Goes (otherItems (now (s .entry)) at len x) (now (s .entry)) (at + len) n r
+        (lend Table.tags (now (t .entry))) (lend Table.tags (now (t .exit))) ⌝ }
 {
-    let q = text::move_to(s, p, at + len);
-    let id = walk::said::span_name(at, x.id);
-    let none = walk::said::no_number();
-    let row = walk::rows::tag_row(3, p, q, id, none, none, 0);
-    walk::put_tag(n, row, t)
+    let none = walk::terms::no_number();
+    put_row(s, at, len, 3, x.id, none, none, 0, n, t)
 }
 
-// One value of a range's list.
-fn put_inside(s: &[u8], at: usize, p: SourceLocation, c: TagMatch, n: Walk, t: &mut [u64]) -> Walk
-    requires { ⌜ Met values (now s) at p c n ⌝ }
-    ensures { λ r. ⌜ Done (itemsOf values (now (s .entry)) at c) (at + taken (c .at)) n r (now (t .entry)) (now (t .exit)) ⌝ }
+// One value inside a range's braces.
+fn put_inner(s: &[u8], at: usize, m: TagMatch, n: Walk, t: &mut [u64]) -> Walk
+    requires { ⌜ Ready values (now s) at m n ⌝ }
+    ensures { λ r. ⌜ GoesOne values (now (s .entry)) at m n r (lend Table.tags (now (t .entry))) (lend Table.tags (now (t .exit))) ⌝ }
 {
-    let end = c.at;
+    let end = m.at;
     let len = grammar::taken(end);
-    let tag = c.tag;
+    let tag = m.tag;
     match tag {
-        Tag::Value(v) => put_value(s, at, p, len, 4, v, n, t),
+        Tag::Value(v) => put_value(s, at, len, 4, v, n, t),
         Tag::Range(_) => n,
         Tag::Other(_) => n,
     }
 }
 
-// The next tag of a list, if there is one.
-pub struct Next {
-    pub found: bool,
-    pub at: usize,
-    pub item: TagMatch,
-}
-
-// What follows the value that ends at j: a comma and a value, or nothing of the list.
-fn next_value(s: &[u8], j: usize) -> Next
-    requires { ⌜ j ≤ length (now s) ⌝ }
-    ensures { λ r. ⌜ Nexts values (now (s .entry)) j r ⌝ }
-{
-    let k = walk::comma(&s[j..]);
-    let e = j + grammar::taken(k);
-    let item = tags::enum_value(&s[e..]);
-    let comma = grammar::took(k);
-    if comma {
-        let end = item.at;
-        return Next {
-            found: grammar::took(end),
-            at: e,
-            item,
-        };
-    }
-    Next {
-        found: false,
-        at: e,
-        item,
-    }
-}
-
-// The values inside a range's braces from `at` on, each matched once; none where none matches.
-pub fn put_values(s: &[u8], at: usize, p: SourceLocation, n: Walk, t: &mut [u64]) -> Walk
-    requires { ⌜ Begun (now s) at p n ⌝ }
-    ensures { λ r. ⌜ Done (listItems values (now (s .entry)) at) (stop enum-value (now (s .entry)) at) n r (now (t .entry)) (now (t .exit)) ⌝ }
+// The values inside a range's braces from `at` on, whose first one is handed on.
+// Rust: parse_enum_value_list_opt.
+fn put_values(s: &[u8], at: usize, first: TagMatch, n: Walk, t: &mut [u64]) -> Walk
+    requires { ⌜ Ready values (now s) at first n ⌝ }
+    ensures { λ r. ⌜ GoesAll values (now (s .entry)) at n r (lend Table.tags (now (t .entry))) (lend Table.tags (now (t .exit))) ⌝ }
 {
     let mut i = at;
-    let mut q = p;
     let mut m = n;
-    let mut c = tags::enum_value(&s[at..]);
-    let first = c.at;
-    let some = grammar::took(first);
-    if some {} else {
-        return n;
-    }
+    let mut c = first;
     loop {
-        m = put_inside(s, i, q, c, m, t);
+        m = put_inner(s, i, c, m, t);
         let end = c.at;
-        let x = next_value(s, i + grammar::taken(end));
-        let more = x.found;
+        let j = i + grammar::taken(end);
+        let comma = walk::comma(&s[j..]);
+        let more = grammar::took(comma);
         if more {} else {
             return m;
         }
-        i = x.at;
-        q = text::move_to(s, q, i);
-        c = x.item;
+        i = j + grammar::taken(comma);
+        c = tags::enum_value(&s[i..]);
+        let next = c.at;
+        let there = grammar::took(next);
+        if there {} else {
+            return m;
+        }
     }
 }
 
-// The values of a range, if it has braces: their list stands behind the range's name and inside its match.
-fn put_inner(
-    s: &[u8],
-    at: usize,
-    p: SourceLocation,
-    len: usize,
-    list: Span,
-    n: Walk,
-    t: &mut [u64],
-) -> Walk
-    requires { ⌜ PlacedInner (now s) at p len list n ⌝ }
-    ensures { λ r. ⌜ Done (innerItems (now (s .entry)) at list) (at + len) n r (now (t .entry)) (now (t .exit)) ⌝ }
+// The values inside a range's braces: where they begin with the first of them, or none.
+pub enum Braces {
+    Empty,
+    From(usize, TagMatch),
+}
+
+// What stands in the braces whose list a range of len bytes at `at` says.
+fn braces_of(s: &[u8], at: usize, len: usize, list: Part) -> Braces
+    requires { ⌜ Braced (now s) at len list ⌝ }
+    ensures { λ r. ⌜ Begins (now (s .entry)) at list r ⌝ }
 {
-    if list.len == 0 {
-        return n;
+    let Part::Here(g) = list else {
+        return Braces::Empty;
+    };
+    let start = g.start;
+    if len < start {
+        return Braces::Empty;
     }
-    let i = list.start;
-    if i == 0 {
-        return n;
+    let i = at + start;
+    let first = tags::enum_value(&s[i..]);
+    let end = first.at;
+    let there = grammar::took(end);
+    if there {} else {
+        return Braces::Empty;
     }
-    if len < i {
-        return n;
-    }
-    let q = text::move_to(s, p, at + i);
-    put_values(s, at + i, q, n, t)
+    Braces::From(i, first)
 }
 
-// A range: its row says how many rows follow it, so it is written after them in the place left for it.
-pub fn put_range(
-    s: &[u8],
-    at: usize,
-    p: SourceLocation,
-    len: usize,
-    x: TagRange,
-    n: Walk,
-    t: &mut [u64],
-) -> Walk
-    requires { ⌜ PlacedRange (now s) at p len x n ⌝ }
-    ensures { λ r. ⌜ Done (rangeItems (now (s .entry)) at len x) (at + len) n r (now (t .entry)) (now (t .exit)) ⌝ }
+// How many rows the values from `at` on have. Only a walk that writes asks: one that counts meets them but once.
+fn count_values(s: &[u8], at: usize, first: TagMatch, n: Walk, t: &mut [u64]) -> usize
+    requires { ⌜ Ready values (now s) at first n ⌝ }
+    ensures { λ r. ⌜ Counted (now (s .entry)) at n r (now (t .entry)) (now (t .exit)) ⌝ }
+{
+    let door = n.door;
+    let Door::Write = door else {
+        return 0;
+    };
+    let m = put_values(s, at, first, walk::counting(n), t);
+    walk::counted(m, walk::TAGS) - walk::counted(n, walk::TAGS)
+}
+
+// The walk n, whose place is p.
+fn back(n: Walk, p: SourceLocation) -> Walk
+    ensures { λ r. ⌜ r ≡ placed p n ⌝ }
+{
+    let door = n.door;
+    let counts = n.counts;
+    Walk {
+        door,
+        counts,
+        place: n.place,
+        reason: n.reason,
+        here: p,
+    }
+}
+
+// A range: its row says how many rows follow it, so they are counted first. The walk goes to its end only for its row.
+// Rust: parse_enum_range.
+fn put_range(s: &[u8], at: usize, len: usize, x: TagRange, n: Walk, t: &mut [u64]) -> Walk
+    requires { ⌜ PlacedRange (now s) at len x n ⌝ }
+    ensures { λ r. ⌜ Goes (rangeItems (now (s .entry)) at len x) (now (s .entry)) (at + len) n r
+        (lend Table.tags (now (t .entry))) (lend Table.tags (now (t .exit))) ⌝ }
 {
     let low = x.start;
     let high = x.end;
-    let a = walk::said::integer_at(s, at + low.start, low.len);
-    let b = walk::said::integer_at(s, at + high.start, high.len);
-    let m = walk::note(walk::note(n, a), b);
-    let u = Walk {
-        declarations: m.declarations,
-        fields: m.fields,
-        tags: m.tags + 1,
-        constraints: m.constraints,
-        place: m.place,
-        reason: m.reason,
+    let v = walk::terms::integer_at(s, at + low.start, low.len);
+    let e = walk::terms::integer_at(s, at + high.start, high.len);
+    let m = walk::note(walk::note(n, v), e);
+    let list = x.tags;
+    let inside = braces_of(s, at, len, list);
+    let Braces::From(i, first) = inside else {
+        return put_row(s, at, len, 2, x.id, v, e, 0, m, t);
     };
-    let q = text::move_to(s, p, at + len);
-    let id = walk::said::span_name(at, x.id);
-    let r = put_inner(s, at, p, len, x.tags, u, t);
-    let inner = r.tags - u.tags;
-    let row = walk::rows::tag_row(2, p, q, id, a, b, inner);
-    ast::put_row(t, m.tags, &row);
-    r
+    let inner = count_values(s, i, first, m, t);
+    let r = put_row(s, at, len, 2, x.id, v, e, inner, m, t);
+    put_values(s, i, first, back(r, m.here), t)
 }
 
-// One tag of an enum.
-pub fn put_one(s: &[u8], at: usize, p: SourceLocation, c: TagMatch, n: Walk, t: &mut [u64]) -> Walk
-    requires { ⌜ Met tags (now s) at p c n ⌝ }
-    ensures { λ r. ⌜ Done (itemsOf tags (now (s .entry)) at c) (at + taken (c .at)) n r (now (t .entry)) (now (t .exit)) ⌝ }
+// One tag of an enum, by its kind.
+// Rust: parse_enum_tag.
+fn put_one(s: &[u8], at: usize, m: TagMatch, n: Walk, t: &mut [u64]) -> Walk
+    requires { ⌜ Ready tags (now s) at m n ⌝ }
+    ensures { λ r. ⌜ GoesOne tags (now (s .entry)) at m n r (lend Table.tags (now (t .entry))) (lend Table.tags (now (t .exit))) ⌝ }
 {
-    let end = c.at;
+    let end = m.at;
     let len = grammar::taken(end);
-    let tag = c.tag;
+    let tag = m.tag;
     match tag {
-        Tag::Value(v) => put_value(s, at, p, len, 1, v, n, t),
-        Tag::Range(x) => put_range(s, at, p, len, x, n, t),
-        Tag::Other(x) => put_other(s, at, p, len, x, n, t),
+        Tag::Value(v) => put_value(s, at, len, 1, v, n, t),
+        Tag::Range(x) => put_range(s, at, len, x, n, t),
+        Tag::Other(x) => put_other(s, at, len, x, n, t),
     }
 }
 
-// What follows the tag that ends at j: a comma and a tag, or nothing of the list.
-fn next_tag(s: &[u8], j: usize) -> Next
-    requires { ⌜ j ≤ length (now s) ⌝ }
-    ensures { λ r. ⌜ Nexts tags (now (s .entry)) j r ⌝ }
-{
-    let k = walk::comma(&s[j..]);
-    let e = j + grammar::taken(k);
-    let item = tags::enum_tag(&s[e..]);
-    let comma = grammar::took(k);
-    if comma {
-        let end = item.at;
-        return Next {
-            found: grammar::took(end),
-            at: e,
-            item,
-        };
-    }
-    Next {
-        found: false,
-        at: e,
-        item,
-    }
-}
-
-// The tags of an enum from `at` on, each matched once.
-pub fn put_tags(s: &[u8], at: usize, p: SourceLocation, n: Walk, t: &mut [u64]) -> Walked
-    requires { ⌜ Listed (now s) at p n ⌝ }
-    ensures { λ r. ⌜ WroteList (now (s .entry)) at n r (now (t .entry)) (now (t .exit)) ⌝ }
+// The tags of an enum from `at` on, whose first one is handed on.
+// Rust: parse_enum_tag_list.
+pub fn put_tags(s: &[u8], at: usize, first: TagMatch, n: Walk, t: &mut [u64]) -> Walked
+    requires { ⌜ Ready tags (now s) at first n ⌝ }
+    ensures { λ r. ⌜ GoesList tags (now (s .entry)) at n r (lend Table.tags (now (t .entry))) (lend Table.tags (now (t .exit))) ⌝ }
 {
     let mut i = at;
-    let mut q = p;
     let mut m = n;
-    let mut c = tags::enum_tag(&s[at..]);
+    let mut c = first;
     loop {
-        m = put_one(s, i, q, c, m, t);
+        m = put_one(s, i, c, m, t);
         let end = c.at;
         let j = i + grammar::taken(end);
-        let x = next_tag(s, j);
-        let more = x.found;
+        let comma = walk::comma(&s[j..]);
+        let more = grammar::took(comma);
         if more {} else {
             return Walked { walk: m, end: j };
         }
-        i = x.at;
-        q = text::move_to(s, q, i);
-        c = x.item;
+        i = j + grammar::taken(comma);
+        c = tags::enum_tag(&s[i..]);
+        let next = c.at;
+        let there = grammar::took(next);
+        if there {} else {
+            return Walked { walk: m, end: j };
+        }
     }
 }

@@ -1,22 +1,15 @@
--- A tag's later alternative, and that a list of values takes a byte.
+-- A tag's later alternative.
 use Prim.Native.Nat.{ℕ}
-use mathlib.Core.Path.{_≡_, refl, ap, sym, _∙_}
+use mathlib.Core.Path.{_≡_, ap, sym, _∙_}
 use mathlib.Core.List.{List}
-use mathlib.Core.Bool.{true}
 use Rattle.meaning.specs.declared.Match.{Match}
 use Rattle.meaning.specs.declared.Match.the-variants.{Missed}
-use Rattle.meaning.specs.Peg.{Peg, alt, join, bytewise, taken}
-use Rattle.meaning.specs.Pdl.{alpha, identifier, enum-value, enum-value-list}
-use Rattle.grammar.specs.Matching.{Reads, eats}
+use Rattle.meaning.specs.Peg.{Peg, alt, join, taken}
+use Rattle.grammar.specs.Matching.{Reads}
 use Rattle.grammar.specs.Hits.{taken-here}
 use Rattle.grammar.specs.Drawing.{Draws, second, redrawn}
 use Rattle.spans.specs.declared.Tag.{Tag}
 use Rattle.spans.specs.Drawn.{drawTag}
-
--- a list of values takes a byte
-pub list-eats : eats (bytewise enum-value-list) ≡ true
-unfolding enum-value-list enum-value identifier alpha
-list-eats = refl
 
 -- where a missed, b is tried from the same start with a's mark
 pub tag-else : {a b : Peg} {t : List ℕ} {x y r : Match} (tag : Tag) (f : ℕ) → Reads a t x → x ≡ Missed f

@@ -15,14 +15,14 @@ use lexis::texts::then_literal;
 use lexis::tokens::then_identifier;
 use lexis::tokens::then_integer;
 use meaning::Match;
-use spans::Span;
+use spans::Part;
 use spans::Tag;
 use spans::TagMatch;
 use spans::TagOther;
 use spans::TagRange;
 use spans::TagValue;
 use spans::between;
-use spans::kept_span;
+use spans::kept_part;
 
 // A name and its value.
 pub fn enum_value(s: &[u8]) -> TagMatch
@@ -96,21 +96,22 @@ pub fn enum_value_list(s: &[u8]) -> Match
     then_enum_value_list(s, Match::Took(0, 0))
 }
 
-// The values in braces behind a range, as one part: where it ends, and its list's place, of length 0 where there is none.
+// The values in braces behind a range, as one part: where it ends, and its list.
 struct Braces {
     at: Match,
-    tags: Span,
+    tags: Part,
 }
 
 // Values in braces, or nothing, where m ends.
 fn then_braces(s: &[u8], m: Match) -> Braces
     requires { ⌜ Within m (now s) ⌝ }
-    ensures { λ r. ⌜ Follows m (opt (text "{" ~ enum-value-list ~ text "}")) (now (s .entry)) (r .at) (λ o. listAt enum-value-list o (now (s .entry)) (r .tags)) ⌝ }
+    ensures { λ r.
+        ⌜ Follows m (opt (text "{" ~ enum-value-list ~ text "}")) (now (s .entry)) (r .at) (λ o. listAt enum-value-list o (now (s .entry)) (r .tags)) ⌝ }
 {
     let a = then_blanks(s, then_literal(s, m, b"{"));
     let list = then_enum_value_list(s, a);
     let x = next_literal(s, list, b"}");
-    let tags = kept_span(x, between(a, list));
+    let tags = kept_part(x, Part::Here(between(a, list)));
     Braces {
         at: settle(s, m, x),
         tags,
@@ -159,7 +160,8 @@ pub fn enum_other(s: &[u8]) -> TagMatch
 
 // A tag: a range, else a value, else the name for all others, each tried from the start.
 pub fn enum_tag(s: &[u8]) -> TagMatch
-    ensures { λ r. ⌜ Draws enum-tag (now (s .entry)) (r .at) (λ o. tree Rule.enum-tag o (taken (r .at)) (drawTag o (now (s .entry)) (taken (r .at)) (r .tag)) nil) ⌝ }
+    ensures { λ r.
+        ⌜ Draws enum-tag (now (s .entry)) (r .at) (λ o. tree Rule.enum-tag o (taken (r .at)) (drawTag o (now (s .entry)) (taken (r .at)) (r .tag)) nil) ⌝ }
 {
     let range = enum_range(s);
     let x = range.at;

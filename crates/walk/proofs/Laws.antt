@@ -1,11 +1,12 @@
 -- What the walk's small functions return, one law for each way out.
-use Prim.Native.Nat.{ℕ, zero, suc, _+_, _-_, _≤_, _<_}
+use Prim.Native.Nat.{ℕ, zero, suc, _+_, _-_, _^_, _≤_, _<_}
 use native.Mathlib.Omega.{arith}
 use mathlib.Core.Path.{_≡_, refl, ap, subst, sym, _∙_}
 use mathlib.Core.List.{List, [], _∷_}
 use mathlib.Core.Logic.{⊎-elim}
 use borrow.Author.Tests.{eq-eqb, ne-eqb}
-use lib.ListN.{length, take, drop}
+use lib.ListN.{length, getD, set, take, drop, length-set}
+use lib.Seq.{getD-set-same, getD-set-other}
 use types.Run.{OneOf}
 use denote.Enum.Declared.{tagOf}
 use Rattle.meaning.specs.declared.Converted.{Converted}
@@ -13,13 +14,22 @@ use Rattle.meaning.specs.declared.Converted.the-variants.{Value, Empty, BadDigi
 use Rattle.meaning.proofs.Converted.{the-type}
 use Rattle.meaning.specs.Convert.{convert, reasonOf, valueOf}
 use Rattle.spans.specs.declared.Span.{Span}
-use Rattle.spans.specs.declared.Token.{Token}
+use Rattle.spans.specs.declared.Part.{Part}
+use Rattle.spans.specs.declared.Operand.{Operand}
+use Rattle.spans.specs.declared.ArraySize.{ArraySize}
+use Rattle.spans.specs.declared.Target.{Target}
 use Rattle.walk.specs.declared.Walk.{Walk}
 use Rattle.walk.specs.declared.Name.{Name}
 use Rattle.walk.specs.declared.Number.{Number}
-use Rattle.meaning.specs.Tables.{Table, size, row, put, firstOf}
-use Rattle.walk.specs.State.{noted, state, emits, with-declaration, with-field, with-tag, with-constraint, WroteTags, WroteConstraints, PutField, PutDeclaration}
-use Rattle.walk.specs.Said.{numberAt, unquotedName, Inside, InsideToken}
+use Rattle.meaning.specs.declared.SourceLocation.{SourceLocation}
+use Rattle.meaning.specs.Places.{placeAt}
+use Rattle.meaning.specs.Tables.{firstOf, put, puts}
+use Rattle.walk.specs.declared.Door.{Door}
+use Rattle.walk.specs.declared.Door.the-variants.{Count, Write}
+use Rattle.walk.specs.State.{noted, worse, left, Wrote, Near, Stands, At, same, Came, Knows, Put}
+use Rattle.walk.specs.Steps.{wrote-none, goes-none}
+use Rattle.walk.specs.Ready.{offset-of}
+use Rattle.walk.specs.Terms.{numberAt, unquotedName, InsidePart, InsideOperand, InsideSize, InsideTarget}
 
 -- ---- integers
 no-value : (r : Converted) → OneOf (1 ∷ 2 ∷ 3 ∷ []) (tagOf the-type r) → valueOf r ≡ 0
@@ -48,21 +58,31 @@ number-good src o n c v e q =
 -- ---- noting
 module _ (n : Walk) (p r : ℕ) where
   pub note-late : (n .reason ≡ 0 → ⊥) → n ≡ noted p r n
-  unfolding noted
+  unfolding worse
   note-late h = rw (ne-eqb (n .reason) 0 h)
 
   pub note-good : n .reason ≡ 0 → r ≡ 0 → n ≡ noted p r n
-  unfolding noted
+  unfolding worse
   note-good h k = rw (eq-eqb (n .reason) 0 h, eq-eqb r 0 k)
 
   pub note-bad : n .reason ≡ 0 → (r ≡ 0 → ⊥)
-      → _≡_ {A = Walk} (record { declarations = n .declarations; fields = n .fields; tags = n .tags; constraints = n .constraints; place = p; reason = r }) (noted p r n)
-  unfolding noted
+      → _≡_ {A = Walk} (record { door = n .door; counts = n .counts; place = p; reason = r; here = n .here }) (noted p r n)
+  unfolding worse
   note-bad h k = rw (eq-eqb (n .reason) 0 h, ne-eqb r 0 k)
 
--- ---- tokens
-pub inside : (n : ℕ) (x y : Token) → x ≡ y → InsideToken n x → InsideToken n y
-inside n x y e h = subst (λ (z : Token). InsideToken n z) e h
+-- ---- parts, by their cases
+module _ (n : ℕ) where
+  pub inside-operand : {x y : Operand} → x ≡ y → InsideOperand n x → InsideOperand n y
+  inside-operand e h = subst (λ (z : Operand). InsideOperand n z) e h
+
+  pub inside-size : {x y : ArraySize} → x ≡ y → InsideSize n x → InsideSize n y
+  inside-size e h = subst (λ (z : ArraySize). InsideSize n z) e h
+
+  pub inside-part : {x y : Part} → x ≡ y → InsidePart n x → InsidePart n y
+  inside-part e h = subst (λ (z : Part). InsidePart n z) e h
+
+  pub inside-target : {x y : Target} → x ≡ y → InsideTarget n x → InsideTarget n y
+  inside-target e h = subst (λ (z : Target). InsideTarget n z) e h
 
 -- less than two quotes leave nothing between them
 pub unquoted-short : (o : ℕ) (x : Span) → x .len < 2 → _≡_ {A = Name} (record { offset = o + x .start + 1; len = 0 }) (unquotedName o x)
@@ -73,30 +93,60 @@ pub first-some : (k n : ℕ) → (n ≡ 0 → ⊥) → k ≡ firstOf k n
 first-some k zero h = absurd (h refl)
 first-some k (suc n) h = refl
 
--- ---- rows into tables
-sized : (n k : ℕ) (ws t u : List ℕ) → length ws ≡ n → u ≡ put (length ws) k ws t → u ≡ put n k ws t
-sized n k ws t u e h = h ∙ ap (λ (i : ℕ). put i k ws t) e
+-- ---- the door
+module _ {d : Door} (k : ℕ) (ws t : List ℕ) where
+  pub pass-counted : d ≡ Count → t ≡ left d (length ws) k (ws ∷ []) t
+  unfolding left
+  pass-counted e = ap (λ (x : Door). left x (length ws) k (ws ∷ []) t) (sym e)
 
-module _ (n : Walk) (ws t u : List ℕ) where
-  pub tag-put : length ws ≡ size Table.tags → u ≡ put (length ws) (n .tags) ws t → WroteTags (row Table.tags ws ∷ []) n (with-tag n) t u
-  unfolding emits
-  tag-put e h = record { done = λ d f c. ap (λ (v : List ℕ). state (with-tag n) d f v c) (sized (size Table.tags) (n .tags) ws t u e h) }
+  pub pass-written : {u : List ℕ} → d ≡ Write → u ≡ put (length ws) k ws t → u ≡ left d (length ws) k (ws ∷ []) t
+  unfolding puts left
+  pass-written e h = h ∙ ap (λ (x : Door). left x (length ws) k (ws ∷ []) t) (sym e)
 
-  pub constraint-put : length ws ≡ size Table.constraints → u ≡ put (length ws) (n .constraints) ws t
-      → WroteConstraints (row Table.constraints ws ∷ []) n (with-constraint n) t u
-  unfolding emits
-  constraint-put e h = record {
-    done = λ d f c. ap (λ (v : List ℕ). state (with-constraint n) d f c v)
-        (sized (size Table.constraints) (n .constraints) ws t u e h);
-  }
+pub put-door : {n : Walk} {k : ℕ} {ws t u : List ℕ} → Knows n k → u ≡ left (n .door) (length ws) (getD (n .counts) k 0) (ws ∷ []) t
+    → Put k ws n (record { door = n .door; counts = set (n .counts) k (getD (n .counts) k 0 + 1); place = n .place; reason = n .reason; here = n .here }) t u
+put-door {n} {k} w h =
+    record {
+      door = refl;
+      here = refl;
+      bad = refl;
+      sized = length-set (n .counts) k (getD (n .counts) k 0 + 1) ∙ w .sized;
+      same = λ j e. getD-set-other (n .counts) k j (getD (n .counts) k 0 + 1) 0 e;
+      one = getD-set-same (n .counts) k (getD (n .counts) k 0 + 1) 0 (omega (arith, w .sized, w .slot));
+      words = h;
+    }
 
-  pub field-put : length ws ≡ size Table.fields → u ≡ put (length ws) (n .fields) ws t → PutField ws n (with-field n) t u
-  unfolding emits
-  field-put e h = record { done = λ d f c. ap (λ (v : List ℕ). state (with-field n) d v f c) (sized (size Table.fields) (n .fields) ws t u e h) }
+-- ---- a step to another offset
+pub stay : {src : List ℕ} {k : ℕ} {n : Walk} → n .door ≡ Count → At src k n → Came src k n n
+unfolding Stands
+stay {src} {k} {n} e h = record { goes = goes-none same h; stands = subst (λ (d : Door). Stands d src k (n .here)) (sym e) tt }
 
-  pub declaration-put : length ws ≡ size Table.declarations → u ≡ put (length ws) (n .declarations) ws t → PutDeclaration ws n (with-declaration n) t u
-  unfolding emits
-  declaration-put e h = record {
-    done = λ f x c. ap (λ (v : List ℕ). state (with-declaration n) v f x c)
-        (sized (size Table.declarations) (n .declarations) ws t u e h);
-  }
+pub ready-to : {src : List ℕ} {k : ℕ} {n : Walk} → n .door ≡ Write → At src k n
+    → (n .here ≡ placeAt src (n .here .offset)) × ((n .here .offset ≤ k) × (k ≤ length src))
+unfolding Near
+ready-to {src} {k} {n} e h = let g = subst (λ (d : Door). Near d src k (n .here)) e (h .near) in (g .0, (g .1, h .within))
+
+pub moved-to : {src : List ℕ} {k : ℕ} {n : Walk} {p : SourceLocation} → n .door ≡ Write → At src k n → p ≡ placeAt src k
+    → Came src k n (record { door = n .door; counts = n .counts; place = n .place; reason = n .reason; here = p })
+unfolding Near Stands
+moved-to {src} {k} {n} {p} e h q =
+    record {
+      goes =
+          record {
+            wrote = record { door = refl; sized = refl; counts = w .counts; bad = w .bad; words = w .words };
+            at =
+                record {
+                  within = h .within;
+                  sized = h .sized;
+                  few = h .few;
+                  near = subst (λ (d : Door). Near d src k p) (sym e) (q ∙ ap (placeAt src) (sym o), omega (arith, o));
+                };
+          };
+      stands = subst (λ (d : Door). Stands d src k p) (sym e) q;
+    }
+  where
+    w : Wrote [] n n same same
+    w = wrote-none n same
+
+    o : p .offset ≡ k
+    o = offset-of src k p q (h .within)

@@ -10,30 +10,22 @@ use Rattle.meaning.specs.Places.{placeAt}
 use Rattle.meaning.specs.Tables.{Table, Item, int, row, count}
 use Rattle.meaning.specs.Walk.{Part, node, part, absent, number, numbers, each, constraint-number, constraint-row, tag-row, parse-enum-value, parse-enum-range, parse-enum-other, parse-enum-tag, Desc, described, describe}
 use Rattle.spans.specs.declared.Span.{Span}
-use Rattle.spans.specs.declared.Token.{Token}
-use Rattle.spans.specs.declared.Token.the-variants.{Absent, Identifier, PayloadIdentifier, BodyIdentifier, Integer, Text, SizeModifier}
-use Rattle.spans.specs.Drawn.{leafAt, drawToken}
-use Rattle.walk.specs.Said.{numberAt, tokenNumber, said, spanName, identifierName, constraintKind, constraintWords, tagWords, noNumber}
+use Rattle.spans.specs.declared.Operand.{Operand}
+use Rattle.spans.specs.declared.Operand.the-variants.{Identifier, Integer}
+use Rattle.spans.specs.Drawn.{leafAt, drawOperand}
+use Rattle.walk.specs.Terms.{numberAt, operandNumber, integerItems, spanName, operandName, constraintKind, constraintWords}
 
 -- ---- a constraint: o is where the text of its spans starts, s and l are its own place
 module _ (src : List ℕ) (o s l : ℕ) (id : Span) (more : Forest) where
-  pub constraint-said : (v : Token) → constraint-number src (node s l (leafAt Rule.identifier o id ⊕ drawToken o v) more) ≡ said (tokenNumber src o v)
+  pub constraint-items : (v : Operand) → constraint-number src (node s l (leafAt Rule.identifier o id ⊕ drawOperand o v) more)
+      ≡ integerItems (operandNumber src o v)
   unfolding constraint-number numberAt
-  constraint-said Absent = refl
-  constraint-said (Identifier x) = refl
-  constraint-said (PayloadIdentifier x) = refl
-  constraint-said (BodyIdentifier x) = refl
-  constraint-said (Integer x) = refl
-  constraint-said (Text x) = refl
-  constraint-said (SizeModifier x) = refl
+  constraint-items (Identifier x) = refl
+  constraint-items (Integer x) = refl
 
-  pub constraint-words : (v : Token) → constraint-row src (node s l (leafAt Rule.identifier o id ⊕ drawToken o v) more)
-      ≡ row Table.constraints (constraintWords (constraintKind v) (placeAt src s) (placeAt src (s + l)) (spanName o id) (identifierName o v) (tokenNumber src o v)) ∷ []
+  pub constraint-words : (v : Operand) → constraint-row src (node s l (leafAt Rule.identifier o id ⊕ drawOperand o v) more)
+      ≡ row Table.constraints (constraintWords (constraintKind v) (placeAt src s) (placeAt src (s + l)) (spanName o id) (operandName o v)
+      (operandNumber src o v)) ∷ []
   unfolding constraint-row constraintWords numberAt
-  constraint-words Absent = refl
   constraint-words (Identifier x) = refl
-  constraint-words (PayloadIdentifier x) = refl
-  constraint-words (BodyIdentifier x) = refl
   constraint-words (Integer x) = refl
-  constraint-words (Text x) = refl
-  constraint-words (SizeModifier x) = refl

@@ -36,14 +36,16 @@ last-behind u =
     omega (arith, last-taken u, last-taken v, skip-twice u, e)
 
 -- the rule takes blanks even where no turn follows them; counted from the end of the turns it ends at the same place
-same-last : (x : Peg) (u : List ℕ) → ending (taken (run (bytewise (seq skip (repeat (text "," ~ x)))) u)) u ≡ ending (taken (run (star (bytewise (turn x))) u)) u
+same-last : (x : Peg) (u : List ℕ) → ending (taken (run (bytewise (seq skip (repeat (text "," ~ x)))) u)) u
+    ≡ ending (taken (run (star (bytewise (turn x))) u)) u
 same-last x u =
     repeat-end (bytewise skip) (bytewise (text "," ~ x)) hit-skip (eats-turn x) u (λ n. ending n u)
     (last-behind u ∙ (let z : taken (run (bytewise last) u) ≡ ending 0 u = omega arith in z))
 
 -- ---- the list at i, whose last item ends at j: z is the last comma there
 module _ (k : Rule) (x : Peg) (plain : is Rule.COMMENT k ≡ false) where
-  pub list-ends : (src : List ℕ) (i : ℕ) → hit (run (bytewise x) (drop i src)) ≡ true → (j : ℕ) (z : Match) → j ≡ past x src (i + taken (run (bytewise x) (drop i src)))
+  pub list-ends : (src : List ℕ) (i : ℕ) → hit (run (bytewise x) (drop i src)) ≡ true → (j : ℕ) (z : Match)
+      → j ≡ past x src (i + taken (run (bytewise x) (drop i src)))
       → Reads last (drop j src) z → i + taken (run (bytewise (listOf k x)) (drop i src)) ≡ j + taken z
   unfolding run past
   list-ends src i h j z ej hz =
@@ -52,12 +54,14 @@ module _ (k : Rule) (x : Peg) (plain : is Rule.COMMENT k ≡ false) where
       let v : List ℕ = drop n u in
       let m : ℕ = taken (run (bytewise (seq skip (repeat (text "," ~ x)))) v) in
       let s : ℕ = taken (run (star (bytewise (turn x))) v) in
-      let all : taken (run (bytewise (listOf k x)) u) ≡ taken (run (bytewise (inside x)) u) + taken (run (bytewise last) (drop (taken (run (bytewise (inside x)) u)) u))
+      let all : taken (run (bytewise (listOf k x)) u) ≡ taken (run (bytewise (inside x)) u)
+      + taken (run (bytewise last) (drop (taken (run (bytewise (inside x)) u)) u))
       = taken-seq (bytewise (inside x)) (bytewise last) u (inside-hit x u h) (hit-blank-opt (text ",") _) in
       let items : taken (run (bytewise (inside x)) u) ≡ n + m = taken-seq (bytewise x) (bytewise (seq skip (repeat (text "," ~ x)))) u h (hit-turns x _) in
       let behind : taken (run (bytewise last) (drop (taken (run (bytewise (inside x)) u)) u)) ≡ taken (run (bytewise last) (drop m v))
       = ap (λ (w : List ℕ). taken (run (bytewise last) w)) (ap (λ (l : ℕ). drop l u) items ∙ sym (drop-drop m n u)) in
-      let turns : s ≡ taken (run (star (bytewise (turn x))) (drop (i + n) src)) = ap (λ (w : List ℕ). taken (run (star (bytewise (turn x))) w)) (drop-drop n i src) in
+      let turns : s ≡ taken (run (star (bytewise (turn x))) (drop (i + n) src)) = ap (λ (w : List ℕ). taken (run (star (bytewise (turn x))) w))
+      (drop-drop n i src) in
       let here : drop j src ≡ drop s v
       = ap (λ (l : ℕ). drop l src) (let e : j ≡ i + (n + s) = omega (arith, ej, turns) in e) ∙ sym (drop-drop (n + s) i src) ∙ sym (drop-drop s n u) in
       let ends : taken z ≡ taken (run (bytewise last) (drop s v)) = ap taken (hz .is) ∙ ap (λ (w : List ℕ). taken (run (bytewise last) w)) here in

@@ -1,7 +1,6 @@
 pub mod State
-pub mod StateLaws
-pub mod Counts
-pub mod Said
+pub mod Terms
+pub mod Steps
 pub mod DrawnItems
 pub mod Ready
 pub mod Turns
@@ -9,4 +8,5 @@ pub mod Listing
 pub mod Ends
 pub mod Insides
 pub mod Nexts
-pub mod SaidLaws
+pub mod Lists
+pub mod Sounds

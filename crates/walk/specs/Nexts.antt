@@ -46,7 +46,8 @@ module _ (x : Peg) (src : List ℕ) (j : ℕ) (k : Match) (within : j ≤ length
   there : {d : Match} → Reads x (drop (j + taken k) src) d → Reads x (drop (taken k) (drop j src)) d
   there {d} h = subst (λ (u : List ℕ). Reads x u d) (sym (drop-drop (taken k) j src)) h
 
-  pub found : (e : ℕ) (d : Match) (w : ℕ → Forest) → e ≡ j + taken k → hit k ≡ true → hit d ≡ true → Draws x (take (length src - e) (drop e src)) d w → FoundAt x src j e d w
+  pub found : (e : ℕ) (d : Match) (w : ℕ → Forest) → e ≡ j + taken k → hit k ≡ true → hit d ≡ true → Draws x (take (length src - e) (drop e src)) d w
+      → FoundAt x src j e d w
   found e d w q hh hd dr =
       let dd : Draws x (drop e src) d w = draws-at e src dr in
       let dk : Reads x (drop (j + taken k) src) d = subst (λ (i : ℕ). Reads x (drop i src) d) q (dd .reads) in

@@ -1,82 +1,124 @@
--- The state of a walk: rows in four tables, and the first integer that does not convert. What an item does to it.
-use Prim.Native.Nat.{ℕ, _+_, _≤_}
+-- The walk's state, and what the items that it meets do to it and to the tables lent to it.
+use Prim.Native.Nat.{ℕ, _+_, _^_, _≤_, _<_}
 use mathlib.Core.Path.{_≡_}
 use mathlib.Core.List.{List, [], _∷_}
+use lib.ListN.{length, getD}
 use lib.Dec.{eqb}
+use Rattle.meaning.specs.declared.SourceLocation.{SourceLocation}
 use Rattle.meaning.specs.Choice.{pick}
-use Rattle.meaning.specs.Tables.{Table, size, Item, int, row, put}
+use Rattle.meaning.specs.Places.{placeAt}
+use Rattle.meaning.specs.Tables.{Table, size, Item, int, row, rowsOf, count, Bad, puts, Lent, lent}
+use Rattle.walk.specs.declared.Door.{Door}
+use Rattle.walk.specs.declared.Door.the-variants.{Count, Write}
 use Rattle.walk.specs.declared.Walk.{Walk}
 
--- the walk's counts with the words of its four tables; comments have a pass of their own
-pub record State : Type 0 where
-  pub n : Walk
-  pub d : List ℕ
-  pub f : List ℕ
-  pub t : List ℕ
-  pub c : List ℕ
+-- ---- the counts, by table
+abbrev pub slot : Table → ℕ
+slot Table.declarations = 0
+slot Table.fields = 1
+slot Table.tags = 2
+slot Table.constraints = 3
+slot Table.comments = 4
 
-abbrev pub state : Walk → List ℕ → List ℕ → List ℕ → List ℕ → State
-state n d f t c = record { n = n; d = d; f = f; t = t; c = c }
+abbrev pub counted : Table → Walk → ℕ
+counted t n = getD (n .counts) (slot t) 0
 
 -- nothing done yet
-abbrev pub fresh : Walk
-fresh = record { declarations = 0; fields = 0; tags = 0; constraints = 0; place = 0; reason = 0 }
+abbrev pub fresh : Door → Walk
+fresh d = record { door = d; counts = 0 ∷ 0 ∷ 0 ∷ 0 ∷ 0 ∷ []; place = 0; reason = 0; here = record { offset = 0; line = 0; column = 0 } }
 
--- an integer with its place and reason: the first bad one stays
-unfoldable pub noted : ℕ → ℕ → Walk → Walk
+-- ---- the first bad integer stays
+abbrev pub badOf : Walk → Bad
+badOf n = record { place = n .place; reason = n .reason }
+
+unfoldable pub worse : ℕ → ℕ → Bad → Bad
+worse p r b = pick (eqb (b .reason) 0) (pick (eqb r 0) b (record { place = p; reason = r })) b
+
+unfoldable pub bads : List Item → Bad → Bad
+bads [] b = b
+bads (int p r ∷ xs) b = bads xs (worse p r b)
+bads (row t ws ∷ xs) b = bads xs b
+
+-- the state after an integer with this place and reason
+abbrev pub noted : ℕ → ℕ → Walk → Walk
 noted p r n =
-    pick (eqb (n .reason) 0)
-    (pick (eqb r 0) n (record { declarations = n .declarations; fields = n .fields; tags = n .tags; constraints = n .constraints; place = p; reason = r }))
-    n
+    record { door = n .door; counts = n .counts; place = worse p r (badOf n) .place; reason = worse p r (badOf n) .reason; here = n .here }
 
-abbrev pub with-declaration : Walk → Walk
-with-declaration n = record { declarations = n .declarations + 1; fields = n .fields; tags = n .tags; constraints = n .constraints; place = n .place; reason = n .reason }
+-- the same walk, which only counts
+abbrev pub counting : Walk → Walk
+counting n = record { door = Count; counts = n .counts; place = n .place; reason = n .reason; here = n .here }
 
-abbrev pub with-field : Walk → Walk
-with-field n = record { declarations = n .declarations; fields = n .fields + 1; tags = n .tags; constraints = n .constraints; place = n .place; reason = n .reason }
+-- ---- what the door does with rows that come to it from row k on
+unfoldable pub left : Door → ℕ → ℕ → List (List ℕ) → List ℕ → List ℕ
+left Count size k rows t = t
+left Write size k rows t = puts size k rows t
 
-abbrev pub with-tag : Walk → Walk
-with-tag n = record { declarations = n .declarations; fields = n .fields; tags = n .tags + 1; constraints = n .constraints; place = n .place; reason = n .reason }
+-- the tables, one of them lent with these words
+abbrev pub lend : Table → List ℕ → Lent → Lent
+lend Table.declarations ws l = record { w1 = ws; w2 = l .w2; w3 = l .w3; w4 = l .w4; w5 = l .w5 }
+lend Table.fields ws l = record { w1 = l .w1; w2 = ws; w3 = l .w3; w4 = l .w4; w5 = l .w5 }
+lend Table.tags ws l = record { w1 = l .w1; w2 = l .w2; w3 = ws; w4 = l .w4; w5 = l .w5 }
+lend Table.constraints ws l = record { w1 = l .w1; w2 = l .w2; w3 = l .w3; w4 = ws; w5 = l .w5 }
+lend Table.comments ws l = record { w1 = l .w1; w2 = l .w2; w3 = l .w3; w4 = l .w4; w5 = ws }
 
-abbrev pub with-constraint : Walk → Walk
-with-constraint n = record { declarations = n .declarations; fields = n .fields; tags = n .tags; constraints = n .constraints + 1; place = n .place; reason = n .reason }
+-- What a walk over these items does, from the state n to r, with the tables lent as a says and left as b says. Of the tables
+-- that are not lent it says that no row is theirs.
+pub record Wrote (xs : List Item) (n r : Walk) (a b : Lent → Lent) : Type 0 where
+  pub door : r .door ≡ n .door
+  pub sized : length (r .counts) ≡ length (n .counts)
+  pub counts : (t : Table) → counted t r ≡ counted t n + count t xs
+  pub bad : badOf r ≡ bads xs (badOf n)
+  pub words : (l : Lent) (t : Table) → lent t (b l) ≡ left (n .door) (size t) (counted t n) (rowsOf t xs) (lent t (a l))
 
-abbrev pub emit : Item → State → State
-emit (int p r) s = state (noted p r (s .n)) (s .d) (s .f) (s .t) (s .c)
-emit (row Table.declarations ws) s = state (with-declaration (s .n)) (put (size Table.declarations) (s .n .declarations) ws (s .d)) (s .f) (s .t) (s .c)
-emit (row Table.fields ws) s = state (with-field (s .n)) (s .d) (put (size Table.fields) (s .n .fields) ws (s .f)) (s .t) (s .c)
-emit (row Table.tags ws) s = state (with-tag (s .n)) (s .d) (s .f) (put (size Table.tags) (s .n .tags) ws (s .t)) (s .c)
-emit (row Table.constraints ws) s = state (with-constraint (s .n)) (s .d) (s .f) (s .t) (put (size Table.constraints) (s .n .constraints) ws (s .c))
-emit (row Table.comments ws) s = s
+-- ---- where the walk has come to
+-- a place is known only to a walk that writes: it is right, and not past the offset k; or it is that of k
+unfoldable pub Near : Door → List ℕ → ℕ → SourceLocation → Type 0
+Near Count src k p = Unit {0}
+Near Write src k p = (p ≡ placeAt src (p .offset)) × (p .offset ≤ k)
 
-unfoldable pub emits : List Item → State → State
-emits [] s = s
-emits (x ∷ xs) s = emits xs (emit x s)
+unfoldable pub Stands : Door → List ℕ → ℕ → SourceLocation → Type 0
+Stands Count src k p = Unit {0}
+Stands Write src k p = p ≡ placeAt src k
 
--- ---- what a function that walks over some items promises, by the tables that it writes
--- every count is at most the offset that the walk has come to: a row takes a byte
-pub record Few (n : Walk) (k : ℕ) : Type 0 where
-  pub declarations : n .declarations ≤ k
-  pub fields : n .fields ≤ k
-  pub tags : n .tags ≤ k
-  pub constraints : n .constraints ≤ k
+-- the walk has come to the offset k: every count is at most that, since a row takes a byte
+pub record At (src : List ℕ) (k : ℕ) (n : Walk) : Type 0 where
+  pub within : k ≤ length src
+  pub sized : length (n .counts) ≡ 5
+  pub few : (t : Table) → counted t n ≤ k
+  pub near : Near (n .door) src k (n .here)
 
-pub record WroteNothing (xs : List Item) (n r : Walk) : Type 0 where
-  pub done : (d f t c : List ℕ) → state r d f t c ≡ emits xs (state n d f t c)
+-- it goes over some items and comes to k
+pub record Goes (xs : List Item) (src : List ℕ) (k : ℕ) (n r : Walk) (a b : Lent → Lent) : Type 0 where
+  pub wrote : Wrote xs n r a b
+  pub at : At src k r
 
-pub record WroteConstraints (xs : List Item) (n r : Walk) (c c' : List ℕ) : Type 0 where
-  pub done : (d f t : List ℕ) → state r d f t c' ≡ emits xs (state n d f t c)
+abbrev pub same : Lent → Lent
+same l = l
 
-pub record WroteTags (xs : List Item) (n r : Walk) (t t' : List ℕ) : Type 0 where
-  pub done : (d f c : List ℕ) → state r d f t' c ≡ emits xs (state n d f t c)
+pub record Came (src : List ℕ) (k : ℕ) (n r : Walk) : Type 0 where
+  pub goes : Goes [] src k n r same same
+  pub stands : Stands (r .door) src k (r .here)
 
-pub record WroteFields (xs : List Item) (n r : Walk) (f f' c c' : List ℕ) : Type 0 where
-  pub done : (d t : List ℕ) → state r d f' t c' ≡ emits xs (state n d f t c)
+-- ---- one row at the door
+-- the table at a place of the counts
+abbrev pub tableAt : ℕ → Table
+tableAt k =
+    pick (eqb k 0) Table.declarations (pick (eqb k 1) Table.fields (pick (eqb k 2) Table.tags (pick (eqb k 3) Table.constraints Table.comments)))
 
--- one field's row, which leaves all but its own table alone
-pub record PutField (ws : List ℕ) (n r : Walk) (f f' : List ℕ) : Type 0 where
-  pub done : (d t c : List ℕ) → state r d f' t c ≡ emits (row Table.fields ws ∷ []) (state n d f t c)
+pub record Knows (n : Walk) (k : ℕ) : Type 0 where
+  pub sized : length (n .counts) ≡ 5
+  pub slot : k < 5
+  pub room : getD (n .counts) k 0 + 1 < 2 ^ 64
 
--- one declaration's row, which leaves all but its own table alone
-pub record PutDeclaration (ws : List ℕ) (n r : Walk) (d d' : List ℕ) : Type 0 where
-  pub done : (f t c : List ℕ) → state r d' f t c ≡ emits (row Table.declarations ws ∷ []) (state n d f t c)
+pub record Put (k : ℕ) (ws : List ℕ) (n r : Walk) (t t' : List ℕ) : Type 0 where
+  pub door : r .door ≡ n .door
+  pub here : r .here ≡ n .here
+  pub bad : badOf r ≡ badOf n
+  pub sized : length (r .counts) ≡ 5
+  pub same : (j : ℕ) → (j ≡ k → ⊥) → getD (r .counts) j 0 ≡ getD (n .counts) j 0
+  pub one : getD (r .counts) k 0 ≡ getD (n .counts) k 0 + 1
+  pub words : t' ≡ left (n .door) (length ws) (getD (n .counts) k 0) (ws ∷ []) t
+
+-- ---- the items before some, as the walk has counted them
+pub record Tallied (xs : List Item) (n : Walk) : Type 0 where
+  pub counts : (t : Table) → count t xs ≡ counted t n

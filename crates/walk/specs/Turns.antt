@@ -146,13 +146,16 @@ pub hit-turns : (x : Peg) (u : List ℕ) → hit (run (bytewise (seq skip (repea
 hit-turns x u = hit-blank-opt (seq (text "," ~ x) (star (turn x))) u
 
 pub first-item : (x : Peg) (src : List ℕ) (at : ℕ) → hit (run (bytewise x) (drop at src)) ≡ true
-    → nodes (bytewise (x ~ repeat (text "," ~ x))) at (drop at src) ≡ nodes (bytewise x) at (drop at src) ⊕ rest x src (at + taken (run (bytewise x) (drop at src)))
+    → nodes (bytewise (x ~ repeat (text "," ~ x))) at (drop at src) ≡ nodes (bytewise x) at (drop at src)
+    ⊕ rest x src (at + taken (run (bytewise x) (drop at src)))
 unfolding rest
 first-item x src at h =
     nodes-seq (bytewise x) (bytewise (seq skip (repeat (text "," ~ x)))) at (drop at src) h (hit-turns x _)
     ∙ ap (λ (w : Forest). nodes (bytewise x) at (drop at src) ⊕ w)
-    (repeat-nodes (bytewise skip) (bytewise (text "," ~ x)) hit-skip skip-none (eats-turn x) (at + taken (run (bytewise x) (drop at src))) (drop (taken (run (bytewise x) (drop at src))) (drop at src))
-    ∙ ap (λ (u : List ℕ). nodes (star (bytewise (turn x))) (at + taken (run (bytewise x) (drop at src))) u) (drop-drop (taken (run (bytewise x) (drop at src))) at src))
+    (repeat-nodes (bytewise skip) (bytewise (text "," ~ x)) hit-skip skip-none (eats-turn x) (at + taken (run (bytewise x) (drop at src)))
+    (drop (taken (run (bytewise x) (drop at src))) (drop at src))
+    ∙ ap (λ (u : List ℕ). nodes (star (bytewise (turn x))) (at + taken (run (bytewise x) (drop at src))) u)
+    (drop-drop (taken (run (bytewise x) (drop at src))) at src))
 
 -- ---- where all turns from j on end
 pub past-from : (x : Peg) (src : List ℕ) (j : ℕ) → j ≤ past x src j
@@ -163,7 +166,8 @@ past-from x src j = omega arith
 turns-within : (x : Peg) (u : List ℕ) → taken (run (star (bytewise (turn x))) u) ≤ taken (run (bytewise (seq skip (repeat (text "," ~ x)))) u)
 turns-within x u = go (hit (run (bytewise (turn x)) u)) refl
   where
-    go : (b : Bool) → hit (run (bytewise (turn x)) u) ≡ b → taken (run (star (bytewise (turn x))) u) ≤ taken (run (bytewise (seq skip (repeat (text "," ~ x)))) u)
+    go : (b : Bool) → hit (run (bytewise (turn x)) u) ≡ b
+        → taken (run (star (bytewise (turn x))) u) ≤ taken (run (bytewise (seq skip (repeat (text "," ~ x)))) u)
     go true h = omega (arith, repeat-some (bytewise skip) (bytewise (text "," ~ x)) hit-skip (eats-turn x) u h)
     go false h = omega (arith, star-none (bytewise (turn x)) (eats-turn x) u h)
 
@@ -173,8 +177,10 @@ pub list-past : (x : Peg) (src : List ℕ) (at : ℕ) → hit (run (bytewise x) 
 unfolding past
 list-past x src at h =
     let e : taken (run (bytewise (x ~ repeat (text "," ~ x))) (drop at src))
-    ≡ taken (run (bytewise x) (drop at src)) + taken (run (bytewise (seq skip (repeat (text "," ~ x)))) (drop (taken (run (bytewise x) (drop at src))) (drop at src)))
+    ≡ taken (run (bytewise x) (drop at src))
+    + taken (run (bytewise (seq skip (repeat (text "," ~ x)))) (drop (taken (run (bytewise x) (drop at src))) (drop at src)))
     = taken-seq (bytewise x) (bytewise (seq skip (repeat (text "," ~ x)))) (drop at src) h (hit-turns x _) in
-    let d : taken (run (star (bytewise (turn x))) (drop (taken (run (bytewise x) (drop at src))) (drop at src))) ≡ taken (run (star (bytewise (turn x))) (drop (at + taken (run (bytewise x) (drop at src))) src))
+    let d : taken (run (star (bytewise (turn x))) (drop (taken (run (bytewise x) (drop at src))) (drop at src)))
+    ≡ taken (run (star (bytewise (turn x))) (drop (at + taken (run (bytewise x) (drop at src))) src))
     = ap (λ (u : List ℕ). taken (run (star (bytewise (turn x))) u)) (drop-drop (taken (run (bytewise x) (drop at src))) at src) in
     omega (arith, e, d, turns-within x (drop (taken (run (bytewise x) (drop at src))) (drop at src)))

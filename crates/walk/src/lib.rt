@@ -1,18 +1,18 @@
-// The walk's state, and what it does with integers and rows. Row making (`rows`) is apart from row writing.
+// The walk's state, and the door through which every row goes into its table. Row making (`rows`) is apart from row writing.
 ghost use mathlib.Core.Path.{_≡_};
-ghost use Prim.Native.Nat.{_+_, _^_, _<_};
-ghost use mathlib.Core.List.{[], _∷_};
-ghost use Rattle.meaning.specs.Tables.{Table, row};
 ghost use Rattle.grammar.specs.Matching.{Reads};
 ghost use Rattle.walk.specs.Turns.{comma};
-ghost use Rattle.walk.specs.State.{fresh, noted, WroteTags, WroteConstraints, PutField, PutDeclaration};
-use ast::numbers;
+ghost use Prim.Native.Nat.{_<_};
+ghost use lib.ListN.{length, getD};
+ghost use mathlib.Core.List.{[], _∷_};
+ghost use Rattle.walk.specs.State.{fresh, noted, counting, left, Knows, Put, At, Came};
 use lexis::blanks::then_blanks;
 use lexis::texts::then_literal;
 use meaning::Match;
+use meaning::SourceLocation;
 
 pub mod rows;
-pub mod said;
+pub mod terms;
 
 // A comma with the blanks around it.
 pub fn comma(s: &[u8]) -> Match
@@ -22,14 +22,31 @@ pub fn comma(s: &[u8]) -> Match
     then_blanks(s, then_literal(s, then_blanks(s, start), b","))
 }
 
-// How many rows each table has, and the first integer that did not convert: its place and its reason, 0 where all did.
+// What is done with a row: it is counted, or it is counted and written.
+pub enum Door {
+    Count,
+    Write,
+}
+
+// The tables' places among the counts.
+pub const DECLARATIONS: usize = 0;
+
+pub const FIELDS: usize = 1;
+
+pub const TAGS: usize = 2;
+
+pub const CONSTRAINTS: usize = 3;
+
+pub const COMMENTS: usize = 4;
+
+// What is done with rows, how many each table has, the first integer that did not convert (its place and its reason, 0 where
+// all did), and the place that the walk has come to, if it writes.
 pub struct Walk {
-    pub declarations: usize,
-    pub fields: usize,
-    pub tags: usize,
-    pub constraints: usize,
+    pub door: Door,
+    pub counts: [usize; 5],
     pub place: usize,
     pub reason: u64,
+    pub here: SourceLocation,
 }
 
 // A walk over a list: its state behind the list, and where the last item ends.
@@ -39,16 +56,19 @@ pub struct Walked {
 }
 
 // The state before the first item.
-pub fn nothing() -> Walk
-    ensures { λ r. ⌜ r ≡ fresh ⌝ }
+pub fn nothing(door: Door) -> Walk
+    ensures { λ r. ⌜ r ≡ fresh door ⌝ }
 {
     Walk {
-        declarations: 0,
-        fields: 0,
-        tags: 0,
-        constraints: 0,
+        door,
+        counts: [0; 5],
         place: 0,
         reason: 0,
+        here: SourceLocation {
+            offset: 0,
+            line: 0,
+            column: 0,
+        },
     }
 }
 
@@ -66,26 +86,6 @@ pub struct Name {
     pub len: usize,
 }
 
-// The state after an integer: the first bad one stays.
-pub fn note(n: Walk, x: Number) -> Walk
-    ensures { λ r. ⌜ r ≡ noted (x .place) (x .reason) n ⌝ }
-{
-    if n.reason != 0 {
-        return n;
-    }
-    if x.reason == 0 {
-        return n;
-    }
-    Walk {
-        declarations: n.declarations,
-        fields: n.fields,
-        tags: n.tags,
-        constraints: n.constraints,
-        place: x.place,
-        reason: x.reason,
-    }
-}
-
 // The part of a field's row that its description settles.
 pub struct Described {
     pub kind: u64,
@@ -96,70 +96,99 @@ pub struct Described {
     pub nb: Number,
 }
 
-// A tag's row into its table.
-pub fn put_tag(n: Walk, tag: [u64; numbers::TAG_WORDS], t: &mut [u64]) -> Walk
-    requires { ⌜ n .tags + 1 < 2 ^ 64 ⌝ }
-    ensures { λ r. ⌜ WroteTags (row Table.tags tag ∷ []) n r (now (t .entry)) (now (t .exit)) ⌝ }
+// The state after an integer: the first bad one stays.
+pub fn note(n: Walk, x: Number) -> Walk
+    ensures { λ r. ⌜ r ≡ noted (x .place) (x .reason) n ⌝ }
 {
-    ast::put_row(t, n.tags, &tag);
+    if n.reason != 0 {
+        return n;
+    }
+    if x.reason == 0 {
+        return n;
+    }
+    let door = n.door;
+    let counts = n.counts;
+    let here = n.here;
     Walk {
-        declarations: n.declarations,
-        fields: n.fields,
-        tags: n.tags + 1,
-        constraints: n.constraints,
-        place: n.place,
-        reason: n.reason,
+        door,
+        counts,
+        place: x.place,
+        reason: x.reason,
+        here,
     }
 }
 
-// A constraint's row into its table.
-pub fn put_constraint(n: Walk, constraint: [u64; numbers::CONSTRAINT_WORDS], c: &mut [u64]) -> Walk
-    requires { ⌜ n .constraints + 1 < 2 ^ 64 ⌝ }
-    ensures { λ r. ⌜ WroteConstraints (row Table.constraints constraint ∷ []) n r (now (c .entry)) (now (c .exit)) ⌝ }
+// What the door does with row k of a table.
+fn pass(door: Door, k: usize, row: &[u64], t: &mut [u64])
+    ensures { λ _. ⌜ now (t .exit) ≡ left door (length (now (row .entry))) k (now (row .entry) ∷ []) (now (t .entry)) ⌝ }
 {
-    ast::put_row(c, n.constraints, &constraint);
+    let Door::Write = door else {
+        return;
+    };
+    ast::put_row(t, k, row);
+}
+
+// A row comes to the door: it is counted, and written if the walk writes.
+pub fn put(n: Walk, table: usize, row: &[u64], t: &mut [u64]) -> Walk
+    requires { ⌜ Knows n table ⌝ }
+    ensures { λ r. ⌜ Put table (now (row .entry)) n r (now (t .entry)) (now (t .exit)) ⌝ }
+{
+    let door = n.door;
+    let mut counts = n.counts;
+    let k = counts[table];
+    counts[table] = k + 1;
+    pass(door, k, row, t);
+    let here = n.here;
     Walk {
-        declarations: n.declarations,
-        fields: n.fields,
-        tags: n.tags,
-        constraints: n.constraints + 1,
+        door,
+        counts,
         place: n.place,
         reason: n.reason,
+        here,
     }
 }
 
-// A field's row into its table.
-pub fn put_field(n: Walk, field: [u64; numbers::FIELD_WORDS], f: &mut [u64]) -> Walk
-    requires { ⌜ n .fields + 1 < 2 ^ 64 ⌝ }
-    ensures { λ r. ⌜ PutField field n r (now (f .entry)) (now (f .exit)) ⌝ }
+// How many rows of a table there are by now.
+pub fn counted(n: Walk, table: usize) -> usize
+    requires { ⌜ table < 5 ⌝ }
+    ensures { λ r. ⌜ r ≡ getD (n .counts) table 0 ⌝ }
 {
-    ast::put_row(f, n.fields, &field);
+    let counts = n.counts;
+    counts[table]
+}
+
+// The same walk, which only counts.
+pub fn counting(n: Walk) -> Walk
+    ensures { λ r. ⌜ r ≡ counting n ⌝ }
+{
+    let counts = n.counts;
+    let here = n.here;
     Walk {
-        declarations: n.declarations,
-        fields: n.fields + 1,
-        tags: n.tags,
-        constraints: n.constraints,
+        door: Door::Count,
+        counts,
         place: n.place,
         reason: n.reason,
+        here,
     }
 }
 
-// A declaration's row into its table.
-pub fn put_declaration(
-    n: Walk,
-    declaration: [u64; numbers::DECLARATION_WORDS],
-    d: &mut [u64],
-) -> Walk
-    requires { ⌜ n .declarations + 1 < 2 ^ 64 ⌝ }
-    ensures { λ r. ⌜ PutDeclaration declaration n r (now (d .entry)) (now (d .exit)) ⌝ }
+// The walk comes to an offset of the source. Its place is moved only if rows are written.
+pub fn to(s: &[u8], n: Walk, at: usize) -> Walk
+    requires { ⌜ At (now s) at n ⌝ }
+    ensures { λ r. ⌜ Came (now (s .entry)) at n r ⌝ }
 {
-    ast::put_row(d, n.declarations, &declaration);
+    let door = n.door;
+    let Door::Write = door else {
+        return n;
+    };
+    let counts = n.counts;
+    let p = n.here;
+    let here = text::move_to(s, p, at);
     Walk {
-        declarations: n.declarations + 1,
-        fields: n.fields,
-        tags: n.tags,
-        constraints: n.constraints,
+        door,
+        counts,
         place: n.place,
         reason: n.reason,
+        here,
     }
 }

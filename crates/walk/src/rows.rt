@@ -1,7 +1,7 @@
-// Rows from what was said, word by word.
+// Rows from names and numbers, word by word.
 ghost use mathlib.Core.Path.{_≡_};
 ghost use Rattle.meaning.specs.Tables.{firstOf};
-ghost use Rattle.walk.specs.Said.{tagWords, constraintWords, fieldWords, declarationWords};
+ghost use Rattle.walk.specs.Terms.{tagWords, constraintWords, fieldWords, declarationWords};
 use crate::Described;
 use crate::Name;
 use crate::Number;

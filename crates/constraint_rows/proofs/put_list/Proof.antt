@@ -1,67 +1,113 @@
-use Prim.Native.Nat.{_+_, _-_, _^_, _≤_, _<_}
+use Prim.Native.Nat.{_+_, _-_, _≤_}
 use native.Mathlib.Omega.{arith}
-use mathlib.Core.Path.{_≡_, refl, ap, sym, _∙_}
+use mathlib.Core.Path.{_≡_, refl, sym, _∙_}
 use borrow.Author.Needs.{needs}
-use denote.Ref.{now}
 use lib.ListN.{length}
-use Rattle.walk.specs.Ready.{ready}
-use Rattle.constraint_rows.specs.Lists.{Turning}
-use Rattle.constraint_rows.specs.ListLaws.{turn-start, turn-inside, turn-ready, turn-done, turn-more}
+use Rattle.meaning.specs.Tables.{Table}
+use Rattle.walk.specs.State.{lend}
+use Rattle.walk.specs.Lists.{Turning, turn-start, item-in, comma-done, comma-in, item-done, item-more, item-less}
+use Rattle.constraint_rows.specs.Constraints.{constraints}
 use Rattle.constraint_rows.proofs.put_list.Statement.{statement}
 use Rattle.constraint_rows.proofs.put_list.Tie as tie
 
 abbrev Inv-loop : tie.InvT-loop
-Inv-loop s at t₀ i₀ q₀ m₀ c₀ t i q m c = (length t ≡ length t₀) × Turning s at m₀ t₀ i q c m t
+Inv-loop s at t₀ i₀ m₀ c₀ t i m c = (length t ≡ length t₀) × Turning constraints s at m₀ (lend Table.constraints t₀) i c m (lend Table.constraints t)
 
 abbrev μ-loop : tie.MeasureT-loop
-μ-loop s at t₀ i₀ q₀ m₀ c₀ t i q m c = length s - i
+μ-loop s at t₀ i₀ m₀ c₀ t i m c = length s - i
 
 loop-holds : tie.Need-loop-holds Inv-loop μ-loop
-loop-holds c = (refl, turn-start (c .before .before .before .before .pre) (c .constraint .ensures))
+loop-holds c = let p = c .before .before .pre in (refl, turn-start (lend Table.constraints _) (p .came) (p .found))
 
 put-one-requires : tie.Need-put-one-requires Inv-loop μ-loop
-put-one-requires c κs = turn-ready (c .before .before .loop .inv .1) (omega arith)
+put-one-requires c κs = let w = c .before .loop .inv .1 in record { came = w .came; found = w .item }
 
-add-next-one : tie.Need-add-next-one Inv-loop μ-loop
-add-next-one c = let w = c .before .before .before .before .before .before .loop .inv .1 in omega (arith, c .taken .ensures, turn-inside w, w .within)
+add-j : tie.Need-add-j Inv-loop μ-loop
+add-j c =
+    let l = c .before .before .before .before .before in
+    omega (arith, item-in (l .loop .inv .1) _ (c .taken .ensures), l .before .before .before .good)
 
-next-one-requires : tie.Need-next-one-requires Inv-loop μ-loop
-next-one-requires c κs = let w = c .before .before .before .before .before .before .loop .inv .1 in omega (arith, c .taken .ensures, turn-inside w, w .within)
+sub-comma : tie.Need-sub-comma Inv-loop μ-loop
+sub-comma c = let l = c .before .before .before .before .before in item-in (l .loop .inv .1) _ (c .taken .ensures)
+
+part-comma-start : tie.Need-part-comma-start Inv-loop μ-loop
+part-comma-start c = sub-comma c
 
 same-length : tie.Need-same-length Inv-loop μ-loop
-same-length c = let b = c .before .before .before .before .before in b .put-one .kept .1 .1 .1 .1 .1 .0 ∙ b .before .before .before .loop .inv .0
+same-length c =
+    let p = c .before .before .before .before .before .before .before in
+    p .put-one .kept .1 .1 .1 .1 .0 ∙ p .before .before .loop .inv .0
 
 returns : tie.Need-returns Inv-loop μ-loop
 returns c =
-    let n = c .before in
-    let b = n .before .before .before .before in
-    turn-done (b .before .before .before .loop .inv .1) (b .put-one .ensures) _ (n .before .taken .ensures) (n .next-one .ensures .none (c .if1 .left))
+    let k = c .before .before in
+    let e = k .before .before in
+    let p = e .before .before .before in
+    comma-done (p .before .before .loop .inv .1) _ (e .taken .ensures) _ (k .comma .ensures) (p .put-one .ensures) (sym (c .before .took .ensures)
+    ∙ c .if1 .left)
 
-move-to-requires : tie.Need-move-to-requires Inv-loop μ-loop
-move-to-requires c κs =
-    let n = c .before in
-    let l = n .before .before .before .before .before .before .before in
-    let h = n .next-one .ensures .more (c .if1 .taken) in
-    let w = l .loop .inv .1 in
-    ready (now (l .before .before .before .before .before .args .s)) (l .loop .i) (n .next-one .result .at) (l .loop .q) (w .here) (omega (arith, h .behind)) (h .within)
+add-i : tie.Need-add-i Inv-loop μ-loop
+add-i c =
+    let k = c .before .before .before in
+    let e = k .before .before in
+    let l = e .before .before .before .before .before in
+    omega (arith, comma-in (l .loop .inv .1) _ (e .taken .ensures) _ (k .comma .ensures) _ (c .taken2 .ensures), l .before .before .before .good)
+
+sub-constraint : tie.Need-sub-constraint Inv-loop μ-loop
+sub-constraint c =
+    let k = c .before .before .before in
+    let e = k .before .before in
+    let l = e .before .before .before .before .before in
+    comma-in (l .loop .inv .1) _ (e .taken .ensures) _ (k .comma .ensures) _ (c .taken2 .ensures)
+
+part-constraint-start : tie.Need-part-constraint-start Inv-loop μ-loop
+part-constraint-start c = sub-constraint c
 
 loop-less : tie.Need-loop-less Inv-loop μ-loop
 loop-less c =
-    let n = c .before .before .before in
-    let h = n .next-one .ensures .more (c .before .before .if1 .taken) in
-    omega (arith, h .behind, h .within)
+    let x = c .before .before in
+    let f = x .before .before in
+    let k = f .before .before .before in
+    let e = k .before .before in
+    let l = e .before .before .before .before .before in
+    item-less (l .loop .inv .1) _ (e .taken .ensures) _ (k .comma .ensures) _ (f .taken2 .ensures) (sym (f .before .before .took .ensures)
+    ∙ f .before .if1 .taken) (x .constraint .result) (x .constraint .ensures)
+    (sym (c .before .took2 .ensures) ∙ c .if2 .taken)
 
 loop-again : tie.Need-loop-again Inv-loop μ-loop
 loop-again c =
-    let n = c .before .before .before in
-    let b = n .before .before .before .before in
-    let l = b .before .before .before in (
-      b .put-one .kept .1 .1 .1 .1 .1 .0 ∙ l .loop .inv .0,
-      turn-more (l .loop .inv .1) (b .put-one .ensures) _ (n .before .taken .ensures) (n .next-one .ensures .more (c .before .before .if1 .taken)) (c .before .move-to .ensures),
+    let x = c .before .before in
+    let f = x .before .before in
+    let k = f .before .before .before in
+    let e = k .before .before in
+    let p = e .before .before .before in
+    let l = p .before .before in (
+      p .put-one .kept .1 .1 .1 .1 .0 ∙ l .loop .inv .0,
+      item-more (l .loop .inv .1) _ (e .taken .ensures) _ (k .comma .ensures) _ (f .taken2 .ensures) (sym (f .before .before .took .ensures)
+          ∙ f .before .if1 .taken) (x .constraint .result) (x .constraint .ensures)
+          (p .put-one .ensures) (sym (c .before .took2 .ensures) ∙ c .if2 .taken),
     )
+
+same-length-2 : tie.Need-same-length-2 Inv-loop μ-loop
+same-length-2 c =
+    let p = c .before .before .before .before .before .before .before .before .before .before .before .before in
+    p .put-one .kept .1 .1 .1 .1 .0 ∙ p .before .before .loop .inv .0
+
+returns-2 : tie.Need-returns-2 Inv-loop μ-loop
+returns-2 c =
+    let x = c .before .before in
+    let f = x .before .before in
+    let k = f .before .before .before in
+    let e = k .before .before in
+    let p = e .before .before .before in
+    item-done (p .before .before .loop .inv .1) _ (e .taken .ensures) _ (k .comma .ensures) _ (f .taken2 .ensures) (sym (f .before .before .took .ensures)
+    ∙ f .before .if1 .taken)
+    (x .constraint .result) (x .constraint .ensures) (p .put-one .ensures) (sym (c .before .took2 .ensures) ∙ c .if2 .left)
 
 pub put-list-spec : {M : Type 1} → statement M
 put-list-spec =
     tie.close
-    (tie.spec Inv-loop μ-loop (λ c. search needs) (λ c. search needs) (λ c. search needs) (λ c κs. search needs) loop-holds put-one-requires (λ c κs. search needs) add-next-one next-one-requires
-    same-length returns move-to-requires loop-less loop-again)
+    (tie.spec Inv-loop μ-loop loop-holds put-one-requires (λ c κs. search needs) add-j sub-comma part-comma-start (λ c. search needs) (λ c κs. search needs)
+    (λ c κs. search needs)
+    same-length returns (λ c κs. search needs) add-i sub-constraint part-constraint-start (λ c. search needs) (λ c κs. search needs) (λ c κs. search needs)
+    loop-less loop-again same-length-2 returns-2)

@@ -15,4 +15,5 @@ returns c =
     (option (b .then-blanks .ensures .fits) (link (c .before .before .then-comma .ensures) (c .before .then-commas .ensures)) (c .settle .ensures .is))))
 
 pub then-constraint-list-spec : {M : Type 1} → statement M
-then-constraint-list-spec = tie.close (tie.spec (λ c κs. search needs) (λ c κs. search needs) (λ c κs. search needs) (λ c κs. search needs) (λ c κs. search needs) returns)
+then-constraint-list-spec = tie.close (tie.spec (λ c κs. search needs) (λ c κs. search needs) (λ c κs. search needs) (λ c κs. search needs)
+    (λ c κs. search needs) returns)

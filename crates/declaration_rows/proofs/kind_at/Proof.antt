@@ -24,15 +24,22 @@ returns-6 c = kind-is n6 (word-told (c .before .before .literal6 .ensures) (c .b
 
 returns-7 : tie.Need-returns-7
 returns-7 c =
-    kind-test
-    (word-told (c .before .before .before .before .before .before .before .before .before .before .before .before .before .before .before .before .before .before .before .before .before .before .literal .ensures) (c .before .before .before .before .before .before .before .before .before .before .before .before .before .before .before .before .before .before .before .before .before .took .ensures) (c .before .before .before .before .before .before .before .before .before .before .before .before .before .before .before .before .before .before .before .before .if1 .left))
-    (word-told (c .before .before .before .before .before .before .before .before .before .before .before .before .before .before .before .before .before .before .literal2 .ensures) (c .before .before .before .before .before .before .before .before .before .before .before .before .before .before .before .before .before .took2 .ensures) (c .before .before .before .before .before .before .before .before .before .before .before .before .before .before .before .before .if2 .left))
-    (word-told (c .before .before .before .before .before .before .before .before .before .before .before .before .before .before .literal3 .ensures) (c .before .before .before .before .before .before .before .before .before .before .before .before .before .took3 .ensures) (c .before .before .before .before .before .before .before .before .before .before .before .before .if3 .left))
-    (word-told (c .before .before .before .before .before .before .before .before .before .before .literal4 .ensures) (c .before .before .before .before .before .before .before .before .before .took4 .ensures) (c .before .before .before .before .before .before .before .before .if4 .left))
-    (word-told (c .before .before .before .before .before .before .literal5 .ensures) (c .before .before .before .before .before .took5 .ensures) (c .before .before .before .before .if5 .left))
+    let e = c .before .before .before .before in
+    let d = e .before .before .before .before in
+    let k = d .before .before .before .before in
+    let b = k .before .before .before .before in
+    let a = b .before .before .before .before in
+    kind-test (word-told (a .before .before .literal .ensures) (a .before .took .ensures) (a .if1 .left))
+    (word-told (b .before .before .literal2 .ensures) (b .before .took2 .ensures) (b .if2 .left))
+    (word-told (k .before .before .literal3 .ensures) (k .before .took3 .ensures) (k .if3 .left))
+    (word-told (d .before .before .literal4 .ensures) (d .before .took4 .ensures) (d .if4 .left))
+    (word-told (e .before .before .literal5 .ensures) (e .before .took5 .ensures) (e .if5 .left))
     (word-told (c .before .before .literal6 .ensures) (c .before .took6 .ensures) (c .if6 .left))
 
 pub kind-at-spec : {M : Type 1} → statement M
 kind-at-spec =
     tie.close
-    (tie.spec (λ c. search needs) (λ c κs. search needs) (λ c κs. search needs) returns (λ c. search needs) (λ c κs. search needs) (λ c κs. search needs) returns-2 (λ c. search needs) (λ c κs. search needs) (λ c κs. search needs) returns-3 (λ c. search needs) (λ c κs. search needs) (λ c κs. search needs) returns-4 (λ c. search needs) (λ c κs. search needs) (λ c κs. search needs) returns-5 (λ c. search needs) (λ c κs. search needs) (λ c κs. search needs) returns-6 returns-7)
+    (tie.spec (λ c. search needs) (λ c κs. search needs) (λ c κs. search needs) returns (λ c. search needs) (λ c κs. search needs)
+    (λ c κs. search needs) returns-2 (λ c. search needs) (λ c κs. search needs) (λ c κs. search needs) returns-3 (λ c. search needs) (λ c κs. search needs)
+    (λ c κs. search needs) returns-4 (λ c. search needs) (λ c κs. search needs) (λ c κs. search needs) returns-5 (λ c. search needs) (λ c κs. search needs)
+    (λ c κs. search needs) returns-6 returns-7)

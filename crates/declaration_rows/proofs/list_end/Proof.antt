@@ -2,7 +2,7 @@ use Rattle.meaning.specs.Peg.{seq, opt}
 use Rattle.meaning.specs.Pdl.{text, skip}
 use native.Mathlib.Omega.{arith}
 use denote.Ref.{now}
-use Rattle.declaration_rows.specs.Members.{taken-in, taken-is}
+use Rattle.declaration_rows.proofs.MemberLaws.{taken-in, taken-is}
 use borrow.Author.Needs.{needs}
 use Rattle.declaration_rows.proofs.list_end.Statement.{statement}
 use Rattle.declaration_rows.proofs.list_end.Tie as tie
@@ -10,7 +10,14 @@ use Rattle.declaration_rows.proofs.list_end.Tie as tie
 add-result : tie.Need-add-result
 add-result c =
     let b = c .before .before .before .before in
-    omega (arith, c .taken .ensures, taken-is (now (b .args .s)) (b .args .j) (c .before .then-last-comma .ensures), taken-in (now (b .args .s)) (b .args .j) (seq skip (opt (text ","))) (b .pre), b .good)
+    omega (
+      arith,
+      c .taken .ensures,
+      taken-is (now (b .args .s)) (b .args .j) (c .before .then-last-comma .ensures),
+      taken-in (now (b .args .s)) (b .args .j)
+          (seq skip (opt (text ","))) (b .pre),
+      b .good,
+    )
 
 returns : tie.Need-returns
 returns c =

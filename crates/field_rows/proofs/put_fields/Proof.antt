@@ -1,84 +1,136 @@
-use Prim.Native.Nat.{_-_}
+use Prim.Native.Nat.{_+_, _-_, _≤_}
 use native.Mathlib.Omega.{arith}
-use mathlib.Core.Path.{_≡_, refl, _∙_}
+use mathlib.Core.Path.{_≡_, refl, sym, _∙_}
 use borrow.Author.Needs.{needs}
-use denote.Ref.{now}
 use lib.ListN.{length}
-use Rattle.walk.specs.Ready.{ready}
-use Rattle.field_rows.specs.Lists.{Turning}
-use Rattle.field_rows.specs.ListLaws.{turn-start, turn-inside, turn-ready, turn-done, turn-more}
+use Rattle.meaning.specs.Tables.{Table}
+use Rattle.walk.specs.State.{lend}
+use Rattle.walk.specs.Lists.{Turning, turn-start, item-in, comma-done, comma-end, comma-in, item-done, item-end, item-more, item-less}
+use Rattle.field_rows.specs.Fields.{field-form}
 use Rattle.field_rows.proofs.put_fields.Statement.{statement}
 use Rattle.field_rows.proofs.put_fields.Tie as tie
 
 abbrev Inv-loop : tie.InvT-loop
-Inv-loop s at fields₀ constraints₀ i₀ q₀ m₀ f₀ fields constraints i q m f =
-    (length fields ≡ length fields₀) × ((length constraints ≡ length constraints₀) × Turning s at m₀ fields₀ constraints₀ i q f m fields constraints)
+Inv-loop s at f₀ c₀ i₀ m₀ x₀ f c i m x =
+    (length f ≡ length f₀) × ((length c ≡ length c₀)
+    × Turning field-form s at m₀ (λ l. lend Table.fields f₀ (lend Table.constraints c₀ l)) i x m (λ l. lend Table.fields f (lend Table.constraints c l)))
 
 abbrev μ-loop : tie.MeasureT-loop
-μ-loop s at fields₀ constraints₀ i₀ q₀ m₀ f₀ fields constraints i q m f = length s - i
+μ-loop s at f₀ c₀ i₀ m₀ x₀ f c i m x = length s - i
 
 loop-holds : tie.Need-loop-holds Inv-loop μ-loop
-loop-holds c = (refl, (refl, turn-start _ (c .before .before .before .before .before .pre) (c .field .ensures)))
+loop-holds c = let p = c .before .before .before .pre in (refl, (refl, turn-start (λ l. lend Table.fields _ (lend Table.constraints _ l)) (p .came) (p .found)))
 
-put-one-requires : tie.Need-put-one-requires Inv-loop μ-loop
-put-one-requires c κs = turn-ready _ (c .before .before .loop .inv .1 .1)
+put-field-requires : tie.Need-put-field-requires Inv-loop μ-loop
+put-field-requires c κs = let w = c .before .before .loop .inv .1 .1 in record { came = w .came; found = w .item }
 
 add-j : tie.Need-add-j Inv-loop μ-loop
 add-j c =
     let l = c .before .before .before .before .before .before .before .before in
-    let w = (l .loop .inv .1 .1) in
-    omega (arith, (c .taken .ensures), turn-inside _ w, w .within)
+    omega (arith, item-in (l .loop .inv .1 .1) _ (c .taken .ensures), l .before .before .before .before .good)
 
-next-one-requires : tie.Need-next-one-requires Inv-loop μ-loop
-next-one-requires c κs =
-    let l = c .before .before .before .before .before .before .before .before in
-    let w = (l .loop .inv .1 .1) in
-    omega (arith, (c .taken .ensures), turn-inside _ w, w .within)
+sub-comma : tie.Need-sub-comma Inv-loop μ-loop
+sub-comma c = let l = c .before .before .before .before .before .before .before .before in item-in (l .loop .inv .1 .1) _ (c .taken .ensures)
+
+part-comma-start : tie.Need-part-comma-start Inv-loop μ-loop
+part-comma-start c = sub-comma c
 
 same-length : tie.Need-same-length Inv-loop μ-loop
 same-length c =
-    let p = c .before .before .before .before .before .before .before in
-    let l = p .before .before .before in
-    (p .put-one .kept .1 .1 .1 .1 .1 .0) ∙ (l .loop .inv .0)
+    let p = c .before .before .before .before .before .before .before .before .before in
+    p .put-field .kept .1 .1 .1 .1 .0 ∙ p .before .before .before .loop .inv .0
 
 same-length-2 : tie.Need-same-length-2 Inv-loop μ-loop
 same-length-2 c =
-    let p = c .before .before .before .before .before .before .before in
-    let l = p .before .before .before in
-    (p .put-one .kept .1 .1 .1 .1 .1 .1 .0) ∙ (l .loop .inv .1 .0)
+    let p = c .before .before .before .before .before .before .before .before .before in
+    p .put-field .kept .1 .1 .1 .1 .1 .0 ∙ p .before .before .before .loop .inv .1 .0
 
 returns : tie.Need-returns Inv-loop μ-loop
 returns c =
-    let n = c .before in
-    let t = n .before in
-    let p = t .before .before .before .before .before in
-    let l = p .before .before .before in
-    turn-done _ (l .loop .inv .1 .1) (p .put-one .ensures) _ (t .taken .ensures) ((n .next-one .ensures .none) (c .if1 .left))
+    let k = c .before .before in
+    let e = k .before .before in
+    let p = e .before .before .before .before .before in
+    let w = p .before .before .before .loop .inv .1 .1 in
+    let h = sym (c .before .took .ensures) ∙ c .if1 .left in
+    record {
+      all = comma-done w _ (e .taken .ensures) _ (k .comma .ensures) (p .put-field .ensures) h;
+      end = comma-end w _ (e .taken .ensures) _ (k .comma .ensures) (p .put-field .ensures) h;
+    }
 
-move-to-requires : tie.Need-move-to-requires Inv-loop μ-loop
-move-to-requires c κs =
-    let n = c .before in
-    let l = n .before .before .before .before .before .before .before .before .before in
-    let b = l .before .before .before .before .before .before in
-    let h = (n .next-one .ensures .more) (c .if1 .taken) in
-    let w = (l .loop .inv .1 .1) in
-    ready (now (b .args .s)) (l .loop .i) (n .next-one .result .at) (l .loop .q) (w .here) (omega (arith, h .behind)) (h .within)
+add-i : tie.Need-add-i Inv-loop μ-loop
+add-i c =
+    let k = c .before .before .before in
+    let e = k .before .before in
+    let l = e .before .before .before .before .before .before .before .before in
+    omega (arith, comma-in (l .loop .inv .1 .1) _ (e .taken .ensures) _ (k .comma .ensures) _ (c .taken2 .ensures), l .before .before .before .before .good)
+
+sub-field : tie.Need-sub-field Inv-loop μ-loop
+sub-field c =
+    let k = c .before .before .before in
+    let e = k .before .before in
+    let l = e .before .before .before .before .before .before .before .before in
+    comma-in (l .loop .inv .1 .1) _ (e .taken .ensures) _ (k .comma .ensures) _ (c .taken2 .ensures)
+
+part-field-start : tie.Need-part-field-start Inv-loop μ-loop
+part-field-start c = sub-field c
 
 loop-less : tie.Need-loop-less Inv-loop μ-loop
-loop-less c = let h = (c .before .before .before .next-one .ensures .more) (c .before .before .if1 .taken) in omega (arith, h .behind, h .within)
+loop-less c =
+    let x = c .before .before in
+    let f = x .before .before in
+    let k = f .before .before .before in
+    let e = k .before .before in
+    let l = e .before .before .before .before .before .before .before .before in
+    item-less (l .loop .inv .1 .1) _ (e .taken .ensures) _ (k .comma .ensures) _ (f .taken2 .ensures) (sym (f .before .before .took .ensures)
+    ∙ f .before .if1 .taken)
+    (x .field .result) (x .field .ensures) (sym (c .before .took2 .ensures) ∙ c .if2 .taken)
 
 loop-again : tie.Need-loop-again Inv-loop μ-loop
 loop-again c =
-    let m = c .before in
-    let i = m .before in
-    let n = i .before in
-    let t = n .before in
-    let p = t .before .before .before .before .before in
-    let l = p .before .before .before in
-    ((p .put-one .kept .1 .1 .1 .1 .1 .0) ∙ (l .loop .inv .0), ((p .put-one .kept .1 .1 .1 .1 .1 .1 .0) ∙ (l .loop .inv .1 .0), turn-more _ (l .loop .inv .1 .1) (p .put-one .ensures) _ _ (t .taken .ensures) ((n .next-one .ensures .more) (i .if1 .taken)) (m .move-to .ensures)))
+    let x = c .before .before in
+    let f = x .before .before in
+    let k = f .before .before .before in
+    let e = k .before .before in
+    let p = e .before .before .before .before .before in
+    let l = p .before .before .before in (
+      p .put-field .kept .1 .1 .1 .1 .0 ∙ l .loop .inv .0,
+      (
+        p .put-field .kept .1 .1 .1 .1 .1 .0 ∙ l .loop .inv .1 .0,
+        item-more (l .loop .inv .1 .1) _ (e .taken .ensures) _ (k .comma .ensures) _ (f .taken2 .ensures) (sym (f .before .before .took .ensures)
+            ∙ f .before .if1 .taken)
+            (x .field .result) (x .field .ensures) (p .put-field .ensures) (sym (c .before .took2 .ensures) ∙ c .if2 .taken),
+      ),
+    )
+
+same-length-3 : tie.Need-same-length-3 Inv-loop μ-loop
+same-length-3 c =
+    let p = c .before .before .before .before .before .before .before .before .before .before .before .before .before .before in
+    p .put-field .kept .1 .1 .1 .1 .0 ∙ p .before .before .before .loop .inv .0
+
+same-length-4 : tie.Need-same-length-4 Inv-loop μ-loop
+same-length-4 c =
+    let p = c .before .before .before .before .before .before .before .before .before .before .before .before .before .before in
+    p .put-field .kept .1 .1 .1 .1 .1 .0 ∙ p .before .before .before .loop .inv .1 .0
+
+returns-2 : tie.Need-returns-2 Inv-loop μ-loop
+returns-2 c =
+    let x = c .before .before in
+    let f = x .before .before in
+    let k = f .before .before .before in
+    let e = k .before .before in
+    let p = e .before .before .before .before .before in
+    let w = p .before .before .before .loop .inv .1 .1 in
+    let h = sym (f .before .before .took .ensures) ∙ f .before .if1 .taken in
+    let q = sym (c .before .took2 .ensures) ∙ c .if2 .left in
+    record {
+      all = item-done w _ (e .taken .ensures) _ (k .comma .ensures) _ (f .taken2 .ensures) h (x .field .result) (x .field .ensures) (p .put-field .ensures) q;
+      end = item-end w _ (e .taken .ensures) _ (k .comma .ensures) _ (f .taken2 .ensures) h (x .field .result) (x .field .ensures) (p .put-field .ensures) q;
+    }
 
 pub put-fields-spec : {M : Type 1} → statement M
 put-fields-spec =
     tie.close
-    (tie.spec Inv-loop μ-loop (λ c. search needs) (λ c. search needs) (λ c. search needs) (λ c κs. search needs) loop-holds put-one-requires
-    (λ c κs. search needs) add-j next-one-requires same-length same-length-2 returns move-to-requires loop-less loop-again)
+    (tie.spec Inv-loop μ-loop loop-holds put-field-requires (λ c κs. search needs) add-j sub-comma part-comma-start (λ c. search needs) (λ c κs. search needs)
+    (λ c κs. search needs)
+    same-length same-length-2 returns (λ c κs. search needs) add-i sub-field part-field-start (λ c. search needs) (λ c κs. search needs) (λ c κs. search needs)
+    loop-less loop-again same-length-3 same-length-4 returns-2)

@@ -1,12 +1,14 @@
-use borrow.Author.Tests.{lt-ltb, le-ltb}
+use mathlib.Core.Path.{ap, sym}
+use borrow.Author.Needs.{needs}
+use Rattle.field_rows.specs.Items.{condWord}
 use Rattle.field_rows.proofs.row_number.Statement.{statement}
 use Rattle.field_rows.proofs.row_number.Tie as tie
 
 returns : tie.Need-returns
-returns c = rw (lt-ltb 0 _ (c .if1 .taken))
+returns c = rw (c .enum-told .given .1)
 
 returns-2 : tie.Need-returns-2
-returns-2 c = rw (le-ltb 0 _ (c .if1 .left))
+returns-2 c = rw (c .enum-told2 .given .1)
 
 pub row-number-spec : {M : Type 1} → statement M
-row-number-spec = tie.close (tie.spec returns returns-2)
+row-number-spec = tie.close (tie.spec (λ c. search needs) (λ c. search needs) returns returns-2)

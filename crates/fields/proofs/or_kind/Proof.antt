@@ -1,6 +1,6 @@
 use borrow.Author.Needs.{needs}
 use Rattle.grammar.specs.Drawing.{first, second, redrawn}
-use Rattle.fields.specs.Kept.{same-taken}
+use Rattle.fields.specs.Kinds.{same-taken}
 use Rattle.fields.proofs.or_kind.Statement.{statement}
 use Rattle.fields.proofs.or_kind.Tie as tie
 

@@ -1,54 +1,84 @@
-use Prim.Native.Nat.{_+_}
-use native.Mathlib.Omega.{arith}
 use borrow.Author.Needs.{needs}
 use denote.Ref.{now}
-use Rattle.walk.specs.Ready.{ready}
-use Rattle.tag_rows.specs.RowLaws.{words-are, note-few, range-inner, inner-more, inner-count, range-done}
+use Rattle.tag_rows.proofs.Ranges.{range-ready, begins-none, begins-from, empty-done, count-ready, values-ready, filled-done}
 use Rattle.tag_rows.proofs.put_range.Statement.{statement}
 use Rattle.tag_rows.proofs.put_range.Tie as tie
 
-add-move-to : tie.Need-add-move-to
-add-move-to c =
-    let b = c .before .before .before .before .before .before .before .before .before .before .before in
-    let h = b .pre in
-    omega (arith, note-few _ _ (c .before .note2 .ensures) (note-few _ _ (c .before .before .note .ensures) (h .few)) .tags, h .place .within, h .place .some, b .good)
+braces-of-requires : tie.Need-braces-of-requires
+braces-of-requires c κs = c .before .before .before .before .before .before .before .before .before .before .pre .braces
 
-add-move-to-2 : tie.Need-add-move-to-2
-add-move-to-2 c = let b = c .before .before .before .before .before .before .before .before .before .before .before in omega (arith, b .pre .place .within, b .good)
+put-row-requires : tie.Need-put-row-requires
+put-row-requires c κs =
+    let m = c .before .before .before .before in
+    let e = m .before .before in
+    let v = e .before .before in
+    range-ready (v .before .before .before .before .before .before .pre) (v .integer-at .ensures) (e .integer-at2 .ensures) (m .before .note .ensures)
+    (m .note2 .ensures)
 
-move-to-requires : tie.Need-move-to-requires
-move-to-requires c κs =
-    let b = c .before .before .before .before .before .before .before .before .before .before .before in
-    let h = b .pre .place in
-    ready (now (b .args .s)) (b .args .at) (b .args .at + b .args .len) (b .args .p) (h .here) (omega arith) (h .within)
-
-span-name-requires : tie.Need-span-name-requires
-span-name-requires c κs = let b = c .before .before .before .before .before .before .before .before .before .before .before .before in omega (arith, b .pre .id, b .pre .place .within, b .good)
-
-put-inner-requires : tie.Need-put-inner-requires
-put-inner-requires c κs =
-    let n = c .before .before .before .before in
-    let h = c .before .before .before .before .before .before .before .before .before .before .before .before .before .before .pre in
-    range-inner h (note-few _ _ (n .note2 .ensures) (note-few _ _ (n .before .note .ensures) (h .few)))
-
-sub-inner : tie.Need-sub-inner
-sub-inner c = inner-more (c .before .before .before .before .before .before .before .before .before .before .before .before .before .before .before .before .before .before .before .pre) (c .before .before .before .before .put-inner .ensures)
-
+-- no values: the row alone
 returns : tie.Need-returns
 returns c =
-    let r = c .before .before .before .before .before in
-    let i = r .before .before .before .before .before in
-    let q = i .before .before .before in
-    let n = q .before .before in
-    let b = n .before .before in
-    let a = b .before .before in
-    let h = a .before .before .before .before .before .before .pre in
-    range-done h (a .integer-at .ensures) (b .integer-at2 .ensures) (n .before .note .ensures) (n .note2 .ensures) (i .put-inner .ensures)
-    (words-are _ (r .tag-row .ensures) (h .place .here) (q .move-to .ensures) (i .before .before .span-name .ensures) (a .integer-at .ensures) (b .integer-at2 .ensures) (inner-count h (i .put-inner .ensures)))
-    (c .before .before .put-row .ensures)
+    let i = c .before .before .before .before in
+    let b = i .before .before in
+    let m = b .before in
+    let e = m .before .before in
+    let v = e .before .before in
+    let w = v .before .before .before .before .before .before in
+    empty-done (w .pre) (v .integer-at .ensures) (e .integer-at2 .ensures) (m .before .note .ensures) (m .note2 .ensures)
+    (begins-none (now (w .args .s)) (w .args .at) (w .args .x .tags) (b .braces-of .ensures) (i .enum-told .given .1)) (c .before .before .put-row .ensures)
+
+count-values-requires : tie.Need-count-values-requires
+count-values-requires c κs =
+    let i = c .before .before in
+    let b = i .before .before in
+    let m = b .before in
+    let e = m .before .before in
+    let v = e .before .before in
+    let w = v .before .before .before .before .before .before in
+    count-ready (w .pre) (v .integer-at .ensures) (e .integer-at2 .ensures) (m .before .note .ensures) (m .note2 .ensures)
+    (begins-from (now (w .args .s)) (w .args .at) (w .args .x .tags) (b .braces-of .ensures) (i .inside .given .1))
+
+put-row-requires-2 : tie.Need-put-row-requires-2
+put-row-requires-2 c κs =
+    let m = c .before .before .before .before .before .before .before .before .before in
+    let e = m .before .before in
+    let v = e .before .before in
+    range-ready (v .before .before .before .before .before .before .pre) (v .integer-at .ensures) (e .integer-at2 .ensures) (m .before .note .ensures)
+    (m .note2 .ensures)
+
+put-values-requires : tie.Need-put-values-requires
+put-values-requires c κs =
+    let r = c .before .before .before .before in
+    let k = r .before .before .before .before in
+    let i = k .before .before .before in
+    let b = i .before .before in
+    let m = b .before in
+    let e = m .before .before in
+    let v = e .before .before in
+    let w = v .before .before .before .before .before .before in
+    values-ready (w .pre) (v .integer-at .ensures) (e .integer-at2 .ensures) (m .before .note .ensures) (m .note2 .ensures)
+    (begins-from (now (w .args .s)) (w .args .at) (w .args .x .tags) (b .braces-of .ensures) (i .inside .given .1))
+    (k .count-values .ensures) (r .put-row2 .ensures) (c .before .back .ensures)
+
+returns-2 : tie.Need-returns-2
+returns-2 c =
+    let q = c .before .before .before .before in
+    let r = q .before .before .before in
+    let k = r .before .before .before .before in
+    let i = k .before .before .before in
+    let b = i .before .before in
+    let m = b .before in
+    let e = m .before .before in
+    let v = e .before .before in
+    let w = v .before .before .before .before .before .before in
+    filled-done (w .pre) (v .integer-at .ensures) (e .integer-at2 .ensures) (m .before .note .ensures) (m .note2 .ensures)
+    (begins-from (now (w .args .s)) (w .args .at) (w .args .x .tags) (b .braces-of .ensures) (i .inside .given .1))
+    (k .count-values .ensures) (r .put-row2 .ensures) (q .back .ensures) (c .before .before .put-values .ensures)
 
 pub put-range-spec : {M : Type 1} → statement M
 put-range-spec =
     tie.close
     (tie.spec (λ c. search needs) (λ c κs. search needs) (λ c. search needs) (λ c κs. search needs) (λ c κs. search needs) (λ c κs. search needs)
-    add-move-to add-move-to-2 move-to-requires span-name-requires put-inner-requires sub-inner (λ c κs. search needs) (λ c. search needs) (λ c κs. search needs) (λ c. search needs) returns)
+    braces-of-requires (λ c. search needs) (λ c. search needs)
+    put-row-requires (λ c. search needs) returns count-values-requires put-row-requires-2 (λ c κs. search needs) put-values-requires (λ c. search needs)
+    returns-2)

@@ -1,64 +1,113 @@
-use Prim.Native.Nat.{_-_}
+use Prim.Native.Nat.{_+_, _-_, _≤_}
 use native.Mathlib.Omega.{arith}
 use mathlib.Core.Path.{_≡_, refl, sym, _∙_}
 use borrow.Author.Needs.{needs}
-use denote.Ref.{now}
 use lib.ListN.{length}
-use Rattle.walk.specs.Ready.{ready}
-use Rattle.tag_rows.specs.Tags.{values, lawful-values}
-use Rattle.tag_rows.specs.Placed.{Turning}
-use Rattle.tag_rows.specs.ListLaws.{values-start, values-none, turn-inside, turn-done, turn-more}
+use Rattle.meaning.specs.Tables.{Table}
+use Rattle.walk.specs.State.{lend}
+use Rattle.walk.specs.Lists.{Turning, turn-start, item-in, comma-done, comma-in, item-done, item-more, item-less}
+use Rattle.tag_rows.specs.Tags.{values}
 use Rattle.tag_rows.proofs.put_values.Statement.{statement}
 use Rattle.tag_rows.proofs.put_values.Tie as tie
 
 abbrev Inv-loop : tie.InvT-loop
-Inv-loop s at t₀ i₀ q₀ m₀ c₀ some t i q m c = (length t ≡ length t₀) × Turning values s at m₀ t₀ i q c m t
+Inv-loop s at t₀ i₀ m₀ c₀ t i m c = (length t ≡ length t₀) × Turning values s at m₀ (lend Table.tags t₀) i c m (lend Table.tags t)
 
 abbrev μ-loop : tie.MeasureT-loop
-μ-loop s at t₀ i₀ q₀ m₀ c₀ some t i q m c = length s - i
-
-returns : tie.Need-returns Inv-loop μ-loop
-returns c = values-none (c .before .before .enum-value .result) (c .before .before .before .before .before .before .pre) (c .before .before .enum-value .ensures) (sym (c .before .took .ensures) ∙ c .if1 .left)
+μ-loop s at t₀ i₀ m₀ c₀ t i m c = length s - i
 
 loop-holds : tie.Need-loop-holds Inv-loop μ-loop
-loop-holds c = (refl, values-start (c .before .before .enum-value .result) (c .before .before .before .before .before .before .pre) (c .before .before .enum-value .ensures) (sym (c .before .took .ensures) ∙ c .if1 .taken))
+loop-holds c = let p = c .before .before .pre in (refl, turn-start (lend Table.tags _) (p .came) (p .found))
 
-add-next-value : tie.Need-add-next-value Inv-loop μ-loop
-add-next-value c = omega (arith, c .taken .ensures, turn-inside (c .before .before .before .before .before .loop .inv .1))
+put-inner-requires : tie.Need-put-inner-requires Inv-loop μ-loop
+put-inner-requires c κs = let w = c .before .loop .inv .1 in record { came = w .came; found = w .item }
 
-next-value-requires : tie.Need-next-value-requires Inv-loop μ-loop
-next-value-requires c κs = omega (arith, c .taken .ensures, turn-inside (c .before .before .before .before .before .loop .inv .1))
+add-j : tie.Need-add-j Inv-loop μ-loop
+add-j c =
+    let l = c .before .before .before .before .before in
+    omega (arith, item-in (l .loop .inv .1) _ (c .taken .ensures), l .before .before .before .good)
+
+sub-comma : tie.Need-sub-comma Inv-loop μ-loop
+sub-comma c = let l = c .before .before .before .before .before in item-in (l .loop .inv .1) _ (c .taken .ensures)
+
+part-comma-start : tie.Need-part-comma-start Inv-loop μ-loop
+part-comma-start c = sub-comma c
 
 same-length : tie.Need-same-length Inv-loop μ-loop
-same-length c = let b = c .before .before .before .before .before in b .put-inside .kept .1 .1 .1 .1 .1 .0 ∙ b .before .before .loop .inv .0
+same-length c =
+    let p = c .before .before .before .before .before .before .before in
+    p .put-inner .kept .1 .1 .1 .1 .0 ∙ p .before .before .loop .inv .0
 
-returns-2 : tie.Need-returns-2 Inv-loop μ-loop
-returns-2 c =
-    let n = c .before in
-    let b = c .before .before .before .before .before in
-    turn-done (b .before .before .loop .inv .1) lawful-values (b .put-inside .ensures) _ (n .before .taken .ensures) (n .next-value .ensures .none (c .if2 .left))
+returns : tie.Need-returns Inv-loop μ-loop
+returns c =
+    let k = c .before .before in
+    let e = k .before .before in
+    let p = e .before .before .before in
+    comma-done (p .before .before .loop .inv .1) _ (e .taken .ensures) _ (k .comma .ensures) (p .put-inner .ensures)
+    (sym (c .before .took .ensures) ∙ c .if1 .left)
 
-move-to-requires : tie.Need-move-to-requires Inv-loop μ-loop
-move-to-requires c κs =
-    let n = c .before in
-    let l = c .before .before .before .before .before .before .before in
-    let h = n .next-value .ensures .more (c .if2 .taken) in
-    ready (now (c .before .before .before .before .before .before .before .before .before .before .before .before .before .before .args .s)) (l .loop .i) (n .next-value .result .at) (l .loop .q) (l .loop .inv .1 .item .here) (omega (arith, h .behind)) (h .within)
+add-i : tie.Need-add-i Inv-loop μ-loop
+add-i c =
+    let k = c .before .before .before in
+    let e = k .before .before in
+    let l = e .before .before .before .before .before in
+    omega (arith, comma-in (l .loop .inv .1) _ (e .taken .ensures) _ (k .comma .ensures) _ (c .taken2 .ensures), l .before .before .before .good)
+
+sub-enum-value : tie.Need-sub-enum-value Inv-loop μ-loop
+sub-enum-value c =
+    let k = c .before .before .before in
+    let e = k .before .before in
+    let l = e .before .before .before .before .before in
+    comma-in (l .loop .inv .1) _ (e .taken .ensures) _ (k .comma .ensures) _ (c .taken2 .ensures)
+
+part-enum-value-start : tie.Need-part-enum-value-start Inv-loop μ-loop
+part-enum-value-start c = sub-enum-value c
 
 loop-less : tie.Need-loop-less Inv-loop μ-loop
-loop-less c = let h = c .before .before .before .next-value .ensures .more (c .before .before .if2 .taken) in omega (arith, h .behind, h .within)
+loop-less c =
+    let x = c .before .before in
+    let f = x .before .before in
+    let k = f .before .before .before in
+    let e = k .before .before in
+    let l = e .before .before .before .before .before in
+    let h = sym (f .before .before .took .ensures) ∙ f .before .if1 .taken in
+    item-less (l .loop .inv .1) _ (e .taken .ensures) _ (k .comma .ensures) _ (f .taken2 .ensures) h (x .enum-value .result) (x .enum-value .ensures)
+    (sym (c .before .took2 .ensures) ∙ c .if2 .taken)
 
 loop-again : tie.Need-loop-again Inv-loop μ-loop
 loop-again c =
-    let n = c .before .before .before in
-    let b = c .before .before .before .before .before .before .before in
-    let l = c .before .before .before .before .before .before .before .before .before in (
-      b .put-inside .kept .1 .1 .1 .1 .1 .0 ∙ l .loop .inv .0,
-      turn-more (l .loop .inv .1) lawful-values (b .put-inside .ensures) _ (n .before .taken .ensures) (n .next-value .ensures .more (c .before .before .if2 .taken)) (c .before .move-to .ensures),
+    let x = c .before .before in
+    let f = x .before .before in
+    let k = f .before .before .before in
+    let e = k .before .before in
+    let p = e .before .before .before in
+    let l = p .before .before in
+    let h = sym (f .before .before .took .ensures) ∙ f .before .if1 .taken in (
+      p .put-inner .kept .1 .1 .1 .1 .0 ∙ l .loop .inv .0,
+      item-more (l .loop .inv .1) _ (e .taken .ensures) _ (k .comma .ensures) _ (f .taken2 .ensures) h (x .enum-value .result) (x .enum-value .ensures)
+          (p .put-inner .ensures) (sym (c .before .took2 .ensures) ∙ c .if2 .taken),
     )
+
+same-length-2 : tie.Need-same-length-2 Inv-loop μ-loop
+same-length-2 c =
+    let p = c .before .before .before .before .before .before .before .before .before .before .before .before in
+    p .put-inner .kept .1 .1 .1 .1 .0 ∙ p .before .before .loop .inv .0
+
+returns-2 : tie.Need-returns-2 Inv-loop μ-loop
+returns-2 c =
+    let x = c .before .before in
+    let f = x .before .before in
+    let k = f .before .before .before in
+    let e = k .before .before in
+    let p = e .before .before .before in
+    let h = sym (f .before .before .took .ensures) ∙ f .before .if1 .taken in
+    item-done (p .before .before .loop .inv .1) _ (e .taken .ensures) _ (k .comma .ensures) _ (f .taken2 .ensures) h
+    (x .enum-value .result) (x .enum-value .ensures) (p .put-inner .ensures) (sym (c .before .took2 .ensures) ∙ c .if2 .left)
 
 pub put-values-spec : {M : Type 1} → statement M
 put-values-spec =
     tie.close
-    (tie.spec Inv-loop μ-loop (λ c. search needs) (λ c. search needs) (λ c. search needs) (λ c κs. search needs) (λ c κs. search needs) returns loop-holds
-    (λ c κs. c .before .loop .inv .1 .item) (λ c κs. search needs) add-next-value next-value-requires same-length returns-2 move-to-requires loop-less loop-again)
+    (tie.spec Inv-loop μ-loop loop-holds put-inner-requires (λ c κs. search needs) add-j sub-comma part-comma-start (λ c. search needs) (λ c κs. search needs)
+    (λ c κs. search needs)
+    same-length returns (λ c κs. search needs) add-i sub-enum-value part-enum-value-start (λ c. search needs) (λ c κs. search needs) (λ c κs. search needs)
+    loop-less loop-again same-length-2 returns-2)

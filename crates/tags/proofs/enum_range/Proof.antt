@@ -10,7 +10,7 @@ use Rattle.tags.proofs.enum_range.Tie as tie
 returns : tie.Need-returns
 unfolding enum-range
 returns c =
-    let inner = c .before .before .before .before in
+    let inner = c .before .before .before in
     let high = inner .before .before in
     let low = high .before .before .before .before in
     let a = low .before .before .before .before in

@@ -10,7 +10,7 @@ returns-2 : tie.Need-returns-2
 returns-2 c = note-good _ _ _ (c .before .before .if1 .left) (c .if2 .taken)
 
 returns-3 : tie.Need-returns-3
-returns-3 c = note-bad _ _ _ (c .before .before .if1 .left) (c .if2 .left)
+returns-3 c = note-bad _ _ _ (c .before .before .before .before .if1 .left) (c .before .before .if2 .left)
 
 pub note-spec : {M : Type 1} → statement M
 note-spec = tie.close (tie.spec returns returns-2 returns-3)

@@ -31,7 +31,8 @@ loop-less c =
 loop-again : tie.Need-loop-again Inv-loop μ-loop
 loop-again c =
     let a = c .before .before in
-    rest-more _ _ declaration-eats (a .before .before .loop .inv) (link (a .before .then-blanks .ensures) (a .then-declaration .ensures)) (c .enum-told2 .given .1)
+    rest-more _ _ declaration-eats (a .before .before .loop .inv) (link (a .before .then-blanks .ensures) (a .then-declaration .ensures))
+    (c .enum-told2 .given .1)
 
 pub then-more-spec : {M : Type 1} → statement M
 then-more-spec =

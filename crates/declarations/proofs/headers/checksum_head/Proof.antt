@@ -6,26 +6,31 @@ use Rattle.grammar.specs.Drawing.{whole, then, retold}
 use Rattle.lexis.specs.Leaves.{CHECKSUM-leaf}
 use Rattle.spans.specs.Parts.{gap, mark, name, number, quoted}
 use Rattle.declarations.specs.Headers.{checksum-head}
-use Rattle.declarations.specs.Kept.{word}
+use Rattle.declarations.specs.HeadParts.{word}
 use Rattle.declarations.proofs.headers.checksum_head.Statement.{statement}
 use Rattle.declarations.proofs.headers.checksum_head.Tie as tie
 
 returns : tie.Need-returns
 unfolding checksum-head CHECKSUM
 returns c =
-    let a = c .before .before .before in
-    let b = a .before .before .before in
-    let d = b .before .before .before in
-    let e = d .before .before .before in
+    let b = c .before .before .before in
+    let a = b .before .before .before in
+    let d = a .before .before .before .before in
     whole
     (retold
-    (then (then (then (then (word CHECKSUM-leaf (named Rule.CHECKSUM (e .before .keyword .ensures))) (then (gap (e .then-blanks .ensures)) (name (d .before .before .then-identifier .ensures))))
-    (mark (d .next-literal .ensures))) (then (gap (b .before .before .then-blanks2 .ensures)) (number (b .before .then-integer .ensures)))) (then (gap (b .then-blanks3 .ensures)) (quoted (a .before .before .then-string .ensures))))
-    (λ h o. rw (a .before .between .ensures, a .between2 .ensures, c .before .before .between3 .ensures, c .before .between4 .ensures, c .nowhere .ensures)))
+    (then
+    (then
+    (then
+    (then (word CHECKSUM-leaf (named Rule.CHECKSUM (d .before .before .keyword .ensures)))
+    (then (gap (d .before .then-blanks .ensures)) (name (d .then-identifier .ensures))))
+    (mark (a .before .before .next-literal .ensures)))
+    (then (gap (a .before .then-blanks2 .ensures)) (number (a .then-integer .ensures))))
+    (then (gap (b .before .before .then-blanks3 .ensures)) (quoted (b .before .then-string .ensures))))
+    (λ h o. rw (b .between .ensures, (c .before .before .between2 .ensures), (c .before .between3 .ensures), (c .between4 .ensures))))
 
 pub checksum-head-spec : {M : Type 1} → statement M
 checksum-head-spec =
     tie.close
     (tie.spec (λ c. search needs) (λ c κs. search needs) (λ c κs. search needs) (λ c κs. search needs) (λ c. search needs) (λ c κs. search needs)
     (λ c κs. search needs) (λ c κs. search needs) (λ c κs. search needs) (λ c κs. search needs) (λ c κs. search needs) (λ c κs. search needs)
-    (λ c κs. search needs) (λ c κs. search needs) (λ c κs. search needs) returns)
+    (λ c κs. search needs) (λ c κs. search needs) returns)

@@ -4,7 +4,7 @@ use Rattle.meaning.specs.Pdl.{PACKET}
 use Rattle.grammar.specs.Steps.{named}
 use Rattle.lexis.specs.Leaves.{PACKET-leaf}
 use Rattle.declarations.specs.Headers.{packet-head}
-use Rattle.declarations.specs.Kept.{word}
+use Rattle.declarations.specs.HeadParts.{word}
 use Rattle.declarations.proofs.headers.packet_head.Statement.{statement}
 use Rattle.declarations.proofs.headers.packet_head.Tie as tie
 

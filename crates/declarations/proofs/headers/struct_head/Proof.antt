@@ -4,7 +4,7 @@ use Rattle.meaning.specs.Pdl.{STRUCT}
 use Rattle.grammar.specs.Steps.{named}
 use Rattle.lexis.specs.Leaves.{STRUCT-leaf}
 use Rattle.declarations.specs.Headers.{struct-head}
-use Rattle.declarations.specs.Kept.{word}
+use Rattle.declarations.specs.HeadParts.{word}
 use Rattle.declarations.proofs.headers.struct_head.Statement.{statement}
 use Rattle.declarations.proofs.headers.struct_head.Tie as tie
 

@@ -10,7 +10,9 @@ returns c =
     let a = c .before .before .before in
     link
     (link (a .before .before .then-test-case .ensures)
-    (link (a .before .then-blanks .ensures) (option (a .before .then-blanks .ensures .fits) (link (a .then-comma .ensures) (c .before .before .then-commas .ensures)) (c .before .settle .ensures .is))))
+    (link (a .before .then-blanks .ensures)
+    (option (a .before .then-blanks .ensures .fits) (link (a .then-comma .ensures) (c .before .before .then-commas .ensures))
+    (c .before .settle .ensures .is))))
     (c .then-last-comma .ensures)
 
 pub then-test-case-list-spec : {M : Type 1} → statement M

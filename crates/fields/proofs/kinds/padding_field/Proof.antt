@@ -9,7 +9,9 @@ use Rattle.fields.proofs.kinds.padding_field.Tie as tie
 
 returns : tie.Need-returns
 unfolding padding-field
-returns c = noted Rule.padding-field refl (whole (then (then (then (sign (from-start (c .before .before .before .before .literal .ensures))) (mark (c .before .before .before .next-byte .ensures))) (c .before .before .next-number .ensures)) (mark (c .next-byte2 .ensures))))
+returns c = noted Rule.padding-field refl
+    (whole (then (then (then (sign (from-start (c .before .before .before .before .literal .ensures))) (mark (c .before .before .before .next-byte .ensures)))
+    (c .before .before .next-number .ensures)) (mark (c .next-byte2 .ensures))))
 
 pub padding-field-spec : {M : Type 1} → statement M
 padding-field-spec =

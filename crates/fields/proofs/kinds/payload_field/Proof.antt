@@ -1,11 +1,12 @@
 use borrow.Author.Needs.{needs}
-use Rattle.grammar.specs.Drawing.{then, whole, noted, maybe, redrawn, from-start}
-use Rattle.spans.specs.Parts.{gap, sign, mark, modifier}
-use Rattle.fields.specs.Kept.{token-kept}
+use Rattle.grammar.specs.Drawing.{then, whole, noted, from-start}
+use Rattle.spans.specs.Parts.{gap, sign, mark, modifier, optional}
 use Rattle.meaning.specs.Rules.{Rule}
-use Rattle.spans.specs.declared.Token.the-variants.{SizeModifier}
-use Rattle.spans.specs.Spans.{spanOf}
-use mathlib.Core.Path.{refl}
+use Rattle.spans.specs.declared.Span.{Span}
+use Rattle.spans.specs.declared.Part.the-variants.{Absent, Here}
+use Rattle.spans.specs.Drawn.{drawPart}
+use Rattle.meaning.specs.Choice.{pick}
+use mathlib.Core.Path.{refl, ap, _∙_}
 use Rattle.meaning.specs.Peg.{hit}
 use Rattle.meaning.specs.Pdl.{payload-field}
 use Rattle.fields.proofs.kinds.payload_field.Statement.{statement}
@@ -13,9 +14,24 @@ use Rattle.fields.proofs.kinds.payload_field.Tie as tie
 
 returns : tie.Need-returns
 unfolding payload-field
-returns c = noted Rule.payload-field refl (redrawn (whole (then (sign (from-start (c .before .before .before .before .before .before .before .before .before .before .literal .ensures))) (then (gap (c .before .before .before .before .before .before .before .before .before .then-blanks .ensures)) (maybe (c .before .before .before .before .before .before .before .before .before .then-blanks .ensures .fits) (then (then (then (sign (c .before .before .before .before .before .before .before .then-literal .ensures)) (mark (c .before .before .before .before .before .before .next-byte .ensures))) (then (gap (c .before .before .before .before .before .then-blanks2 .ensures)) (modifier (c .before .before .before .before .then-size-modifier .ensures)))) (mark (c .before .before .before .next-byte2 .ensures))) (c .before .before .settle .ensures .is))))) (λ h o. rw ((c .kept-token .ensures), (c .before .between .ensures)) (token-kept (hit (c .before .before .before .next-byte2 .result)) o (SizeModifier (spanOf (c .before .before .before .before .before .then-blanks2 .result) (c .before .before .before .before .then-size-modifier .result))))))
+returns c =
+    let b = c .before .before .before in
+    let a = b .before .before .before in
+    let d = a .before .before .before in
+    noted Rule.payload-field refl
+    (whole
+    (then (sign (from-start (d .before .literal .ensures)))
+    (then (gap (d .then-blanks .ensures))
+    (optional (λ p o. drawPart Rule.size-modifier o p) Absent (Here _) (λ o. refl) (d .then-blanks .ensures .fits)
+    (then
+    (then (then (sign (a .before .then-literal .ensures)) (mark (a .next-byte .ensures)))
+    (then (gap (b .before .before .then-blanks2 .ensures)) (modifier (b .before .then-size-modifier .ensures))))
+    (mark (b .next-byte2 .ensures)))
+    (c .before .before .settle .ensures .is)
+    ((c .kept-part .ensures) ∙ ap (λ (i : Span). pick (hit (b .next-byte2 .result)) (Here i) Absent) (c .before .between .ensures))))))
 
 pub payload-field-spec : {M : Type 1} → statement M
 payload-field-spec =
     tie.close
-    (tie.spec (λ c. search needs) (λ c κs. search needs) (λ c κs. search needs) (λ c. search needs) (λ c κs. search needs) (λ c κs. search needs) (λ c κs. search needs) (λ c κs. search needs) (λ c κs. search needs) (λ c κs. search needs) (λ c κs. search needs) (λ c κs. search needs) returns)
+    (tie.spec (λ c. search needs) (λ c κs. search needs) (λ c κs. search needs) (λ c. search needs) (λ c κs. search needs) (λ c κs. search needs)
+    (λ c κs. search needs) (λ c κs. search needs) (λ c κs. search needs) (λ c κs. search needs) (λ c κs. search needs) (λ c κs. search needs) returns)

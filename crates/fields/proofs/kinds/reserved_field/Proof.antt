@@ -9,7 +9,9 @@ use Rattle.fields.proofs.kinds.reserved_field.Tie as tie
 
 returns : tie.Need-returns
 unfolding reserved-field
-returns c = noted Rule.reserved-field refl (whole (then (then (sign (from-start (c .before .before .before .literal .ensures))) (mark (c .before .before .next-byte .ensures))) (c .before .next-number .ensures)))
+returns c = noted Rule.reserved-field refl
+    (whole (then (then (sign (from-start (c .before .before .before .literal .ensures))) (mark (c .before .before .next-byte .ensures)))
+    (c .before .next-number .ensures)))
 
 pub reserved-field-spec : {M : Type 1} → statement M
 reserved-field-spec =

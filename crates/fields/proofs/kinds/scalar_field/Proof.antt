@@ -9,7 +9,9 @@ use Rattle.fields.proofs.kinds.scalar_field.Tie as tie
 
 returns : tie.Need-returns
 unfolding scalar-field
-returns c = noted Rule.scalar-field refl (redrawn (whole (then (then (name (c .before .before .before .before .then-identifier .ensures)) (mark (c .before .before .before .next-byte .ensures))) (c .before .before .next-number .ensures))) (λ h o. rw (c .between .ensures)))
+returns c = noted Rule.scalar-field refl
+    (redrawn (whole (then (then (name (c .before .before .before .before .then-identifier .ensures)) (mark (c .before .before .before .next-byte .ensures)))
+    (c .before .before .next-number .ensures))) (λ h o. rw (c .between .ensures)))
 
 pub scalar-field-spec : {M : Type 1} → statement M
 scalar-field-spec =

@@ -20,7 +20,7 @@ returns c =
     (then
     (then
     (then (then (then (sign (from-start (b .before .before .literal .ensures))) (mark (b .before .next-byte .ensures)))
-    (then (gap (b .then-blanks .ensures)) (n .then-field-name .ensures))) (mark (w .before .next-byte2 .ensures)))
+    (then (gap (b .then-blanks .ensures)) (n .then-target .ensures))) (mark (w .before .next-byte2 .ensures)))
     (mark (w .next-byte3 .ensures)))
     (c .before .next-number .ensures)))
     (λ h o. simp nil-right))
@@ -28,4 +28,5 @@ returns c =
 pub size-field-spec : {M : Type 1} → statement M
 size-field-spec =
     tie.close
-    (tie.spec (λ c. search needs) (λ c κs. search needs) (λ c κs. search needs) (λ c κs. search needs) (λ c κs. search needs) (λ c κs. search needs) (λ c κs. search needs) (λ c κs. search needs) returns)
+    (tie.spec (λ c. search needs) (λ c κs. search needs) (λ c κs. search needs) (λ c κs. search needs) (λ c κs. search needs) (λ c κs. search needs)
+    (λ c κs. search needs) (λ c κs. search needs) returns)

@@ -12,7 +12,8 @@ returns c =
 returns-2 : tie.Need-returns-2
 returns-2 c =
     let b = c .before .before in
-    retold (other _ (b .before .before .before .then-integer .ensures) (b .before .enum-told2 .given .1) (b .settle .ensures .is) (name (c .before .then-identifier .ensures)))
+    retold (other _ (b .before .before .before .then-integer .ensures) (b .before .enum-told2 .given .1) (b .settle .ensures .is)
+    (name (c .before .then-identifier .ensures)))
     (λ h o. rw (c .between2 .ensures))
 
 pub then-element-spec : {M : Type 1} → statement M

@@ -5,7 +5,8 @@ use Rattle.fields.proofs.parts.then_labelled.Statement.{statement}
 use Rattle.fields.proofs.parts.then_labelled.Tie as tie
 
 returns : tie.Need-returns
-returns c = then (then (then (sign (c .before .before .before .before .then-literal .ensures)) (mark (c .before .before .before .next-byte .ensures))) (c .before .before .next-name .ensures)) (mark (c .next-byte2 .ensures))
+returns c = then (then (then (sign (c .before .before .before .before .then-literal .ensures)) (mark (c .before .before .before .next-byte .ensures)))
+    (c .before .before .next-name .ensures)) (mark (c .next-byte2 .ensures))
 
 pub then-labelled-spec : {M : Type 1} → statement M
 then-labelled-spec =

@@ -5,7 +5,8 @@ use Rattle.fields.proofs.parts.then_names.Statement.{statement}
 use Rattle.fields.proofs.parts.then_names.Tie as tie
 
 returns : tie.Need-returns
-returns c = retold (then (then (name (c .before .before .before .before .then-identifier .ensures)) (mark (c .before .before .before .next-byte .ensures))) (c .before .before .next-name .ensures)) (λ h o. rw ((c .between .ensures)))
+returns c = retold (then (then (name (c .before .before .before .before .then-identifier .ensures)) (mark (c .before .before .before .next-byte .ensures)))
+    (c .before .before .next-name .ensures)) (λ h o. rw ((c .between .ensures)))
 
 pub then-names-spec : {M : Type 1} → statement M
 then-names-spec =

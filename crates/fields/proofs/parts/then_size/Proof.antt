@@ -12,7 +12,8 @@ returns c =
 returns-2 : tie.Need-returns-2
 returns-2 c =
     let b = c .before .before in
-    retold (other _ (b .before .before .before .then-size-modifier .ensures) (b .before .enum-told2 .given .1) (b .settle .ensures .is) (number (c .before .then-integer .ensures)))
+    retold (other _ (b .before .before .before .then-size-modifier .ensures) (b .before .enum-told2 .given .1) (b .settle .ensures .is)
+    (number (c .before .then-integer .ensures)))
     (λ h o. rw (c .between2 .ensures))
 
 pub then-size-spec : {M : Type 1} → statement M

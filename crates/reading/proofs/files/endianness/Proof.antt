@@ -10,7 +10,8 @@ move-to-requires : tie.Need-move-to-requires
 move-to-requires c κs =
     let x = c .before .line-of .result in
     let h = c .before .line-of .ensures in
-    ready (now (c .before .before .before .args .s)) (x .start) (x .end) (c .place-of .result) (c .place-of .ensures) (omega (arith, h .starts, h .ends)) (omega (arith, h .ends, h .within))
+    ready (now (c .before .before .before .args .s)) (x .start) (x .end) (c .place-of .result) (c .place-of .ensures) (omega (arith, h .starts, h .ends))
+    (omega (arith, h .ends, h .within))
 
 returns : tie.Need-returns
 returns c =
@@ -21,4 +22,5 @@ returns c =
 pub endianness-spec : {M : Type 1} → statement M
 endianness-spec =
     tie.close
-    (tie.spec (λ c κs. search needs) (λ c κs. search needs) move-to-requires (λ c. search needs) (λ c. search needs) (λ c. search needs) (λ c κs. search needs) returns)
+    (tie.spec (λ c κs. search needs) (λ c κs. search needs) move-to-requires (λ c. search needs) (λ c. search needs) (λ c. search needs)
+    (λ c κs. search needs) returns)

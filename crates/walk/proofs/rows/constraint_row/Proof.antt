@@ -1,5 +1,5 @@
 use mathlib.Core.Path.{refl}
-use Rattle.walk.specs.Said.{constraintWords}
+use Rattle.walk.specs.Terms.{constraintWords}
 use Rattle.walk.proofs.rows.constraint_row.Statement.{statement}
 use Rattle.walk.proofs.rows.constraint_row.Tie as tie
 use Rattle.walk.proofs.rows.constraint_row.Reads as reads

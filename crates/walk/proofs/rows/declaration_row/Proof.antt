@@ -1,5 +1,5 @@
 use mathlib.Core.Path.{refl}
-use Rattle.walk.specs.Said.{declarationWords}
+use Rattle.walk.specs.Terms.{declarationWords}
 use Rattle.walk.proofs.rows.declaration_row.Statement.{statement}
 use Rattle.walk.proofs.rows.declaration_row.Tie as tie
 

@@ -1,5 +1,5 @@
 use mathlib.Core.Path.{refl}
-use Rattle.walk.specs.Said.{fieldWords}
+use Rattle.walk.specs.Terms.{fieldWords}
 use Rattle.walk.proofs.rows.field_row.Statement.{statement}
 use Rattle.walk.proofs.rows.field_row.Tie as tie
 use Rattle.walk.proofs.rows.field_row.Reads as reads

@@ -1,5 +1,5 @@
 use mathlib.Core.Path.{refl}
-use Rattle.walk.specs.Said.{tagWords}
+use Rattle.walk.specs.Terms.{tagWords}
 use Rattle.walk.proofs.rows.tag_row.Statement.{statement}
 use Rattle.walk.proofs.rows.tag_row.Tie as tie
 use Rattle.walk.proofs.rows.tag_row.Reads as reads
