@@ -226,7 +226,8 @@ pub fn add_bitfield(
     symbol: u64,
     width: u64,
 ) -> Called
-    ensures { λ r. ⌜ called r (now (placed .exit)) (now (chunks .exit)) ≡ call (add-bitfield symbol width) (world a (now (placed .entry)) (now (chunks .entry))) ⌝ }
+    ensures { λ r. ⌜ called r (now (placed .exit)) (now (chunks .exit))
+        ≡ call (add-bitfield symbol width) (world a (now (placed .entry)) (now (chunks .entry))) ⌝ }
 {
     let r = judge_bitfield(a, placed, chunks, width);
     if r.number != 0 {
@@ -255,7 +256,8 @@ pub fn add_bytes(
     symbol: u64,
     width: u64,
 ) -> Called
-    ensures { λ r. ⌜ called r (now (placed .exit)) (now (chunks .exit)) ≡ call (add-bytes symbol width) (world a (now (placed .entry)) (now (chunks .entry))) ⌝ }
+    ensures { λ r. ⌜ called r (now (placed .exit)) (now (chunks .exit)) ≡ call (add-bytes symbol width) (world a (now (placed .entry)) (now (chunks .entry)))
+        ⌝ }
 {
     let r = judge_bytes(a, placed, chunks, width);
     if r.number != 0 {

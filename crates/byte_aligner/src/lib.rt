@@ -22,7 +22,8 @@ pub fn add_bitfield(
     symbol: u64,
     width: u64,
 ) -> u64
-    ensures { λ r. ⌜ answered r (now (a .exit)) (now (placed .exit)) (now (chunks .exit)) ≡ call (add-bitfield symbol width) (world (now (a .entry)) (now (placed .entry)) (now (chunks .entry))) ⌝ }
+    ensures { λ r. ⌜ answered r (now (a .exit)) (now (placed .exit)) (now (chunks .exit))
+        ≡ call (add-bitfield symbol width) (world (now (a .entry)) (now (placed .entry)) (now (chunks .entry))) ⌝ }
 {
     let r = alignment::add_bitfield(*a, placed, chunks, symbol, width);
     *a = r.state;
@@ -37,7 +38,8 @@ pub fn add_bytes(
     symbol: u64,
     width: u64,
 ) -> u64
-    ensures { λ r. ⌜ answered r (now (a .exit)) (now (placed .exit)) (now (chunks .exit)) ≡ call (add-bytes symbol width) (world (now (a .entry)) (now (placed .entry)) (now (chunks .entry))) ⌝ }
+    ensures { λ r. ⌜ answered r (now (a .exit)) (now (placed .exit)) (now (chunks .exit))
+        ≡ call (add-bytes symbol width) (world (now (a .entry)) (now (placed .entry)) (now (chunks .entry))) ⌝ }
 {
     let r = alignment::add_bytes(*a, placed, chunks, symbol, width);
     *a = r.state;
@@ -46,7 +48,8 @@ pub fn add_bytes(
 
 // One chunk row of bytes of an unknown width.
 pub fn add_dyn_bytes(a: &mut Aligner, placed: &mut [u64], chunks: &mut [u64], symbol: u64) -> u64
-    ensures { λ r. ⌜ answered r (now (a .exit)) (now (placed .exit)) (now (chunks .exit)) ≡ call (add-dyn-bytes symbol) (world (now (a .entry)) (now (placed .entry)) (now (chunks .entry))) ⌝ }
+    ensures { λ r. ⌜ answered r (now (a .exit)) (now (placed .exit)) (now (chunks .exit))
+        ≡ call (add-dyn-bytes symbol) (world (now (a .entry)) (now (placed .entry)) (now (chunks .entry))) ⌝ }
 {
     let r = alignment::add_dyn_bytes(*a, placed, chunks, symbol);
     *a = r.state;
@@ -212,7 +215,8 @@ pub fn add_bitfield_to(
     symbol: u64,
     width: u64,
 ) -> u64
-    ensures { λ r. ⌜ recorded r (now (a .exit)) (now (placed .exit)) (now (chunks .exit)) ≡ call-to (add-bitfield symbol width) (held (now (a .entry)) (now (placed .entry)) (now (chunks .entry))) ⌝ }
+    ensures { λ r. ⌜ recorded r (now (a .exit)) (now (placed .exit)) (now (chunks .exit))
+        ≡ call-to (add-bitfield symbol width) (held (now (a .entry)) (now (placed .entry)) (now (chunks .entry))) ⌝ }
 {
     let p = plan_bitfield(*a, placed, chunks.len(), symbol, width);
     store_if(chunks, p.due, p.at, p.chunk);
@@ -228,7 +232,8 @@ pub fn add_bytes_to(
     symbol: u64,
     width: u64,
 ) -> u64
-    ensures { λ r. ⌜ recorded r (now (a .exit)) (now (placed .exit)) (now (chunks .exit)) ≡ call-to (add-bytes symbol width) (held (now (a .entry)) (now (placed .entry)) (now (chunks .entry))) ⌝ }
+    ensures { λ r. ⌜ recorded r (now (a .exit)) (now (placed .exit)) (now (chunks .exit))
+        ≡ call-to (add-bytes symbol width) (held (now (a .entry)) (now (placed .entry)) (now (chunks .entry))) ⌝ }
 {
     let p = plan_bytes(*a, placed, chunks.len(), symbol, width);
     store_if(chunks, p.due, p.at, p.chunk);
@@ -243,7 +248,8 @@ pub fn add_dyn_bytes_to(
     chunks: &mut [Chunk],
     symbol: u64,
 ) -> u64
-    ensures { λ r. ⌜ recorded r (now (a .exit)) (now (placed .exit)) (now (chunks .exit)) ≡ call-to (add-dyn-bytes symbol) (held (now (a .entry)) (now (placed .entry)) (now (chunks .entry))) ⌝ }
+    ensures { λ r. ⌜ recorded r (now (a .exit)) (now (placed .exit)) (now (chunks .exit))
+        ≡ call-to (add-dyn-bytes symbol) (held (now (a .entry)) (now (placed .entry)) (now (chunks .entry))) ⌝ }
 {
     let p = plan_dyn_bytes(*a, placed, chunks.len(), symbol);
     store_if(chunks, p.due, p.at, p.chunk);

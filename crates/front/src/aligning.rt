@@ -35,7 +35,8 @@ pub extern "C" fn pdl_add_bitfield(
     symbol: u64,
     width: u64,
 ) -> u64
-    ensures { λ r. ⌜ left r (now (state .exit)) (now (placed .exit)) (now (chunks .exit)) ≡ leaving (call (add-bitfield symbol width) (world (stateOf (now (state .entry))) (now (placed .entry)) (now (chunks .entry)))) ⌝ }
+    ensures { λ r. ⌜ left r (now (state .exit)) (now (placed .exit)) (now (chunks .exit))
+        ≡ leaving (call (add-bitfield symbol width) (world (stateOf (now (state .entry))) (now (placed .entry)) (now (chunks .entry)))) ⌝ }
 {
     let r = alignment::add_bitfield(state_of(*state), placed, chunks, symbol, width);
     let after = r.state;
@@ -52,7 +53,8 @@ pub extern "C" fn pdl_add_bytes(
     symbol: u64,
     width: u64,
 ) -> u64
-    ensures { λ r. ⌜ left r (now (state .exit)) (now (placed .exit)) (now (chunks .exit)) ≡ leaving (call (add-bytes symbol width) (world (stateOf (now (state .entry))) (now (placed .entry)) (now (chunks .entry)))) ⌝ }
+    ensures { λ r. ⌜ left r (now (state .exit)) (now (placed .exit)) (now (chunks .exit))
+        ≡ leaving (call (add-bytes symbol width) (world (stateOf (now (state .entry))) (now (placed .entry)) (now (chunks .entry)))) ⌝ }
 {
     let r = alignment::add_bytes(state_of(*state), placed, chunks, symbol, width);
     let after = r.state;
@@ -68,7 +70,8 @@ pub extern "C" fn pdl_add_dyn_bytes(
     chunks: &mut [u64],
     symbol: u64,
 ) -> u64
-    ensures { λ r. ⌜ left r (now (state .exit)) (now (placed .exit)) (now (chunks .exit)) ≡ leaving (call (add-dyn-bytes symbol) (world (stateOf (now (state .entry))) (now (placed .entry)) (now (chunks .entry)))) ⌝ }
+    ensures { λ r. ⌜ left r (now (state .exit)) (now (placed .exit)) (now (chunks .exit))
+        ≡ leaving (call (add-dyn-bytes symbol) (world (stateOf (now (state .entry))) (now (placed .entry)) (now (chunks .entry)))) ⌝ }
 {
     let r = alignment::add_dyn_bytes(state_of(*state), placed, chunks, symbol);
     let after = r.state;

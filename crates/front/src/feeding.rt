@@ -14,7 +14,8 @@ pub extern "C" fn pdl_layout(
     chunks: &mut [u64],
     answer: &mut [u64; 3],
 ) -> u64
-    ensures { λ r. ⌜ left r (now (answer .exit)) (now (placed .exit)) (now (chunks .exit)) ≡ laying (layout (now (declarations .entry)) (now (fields .entry)) index (now (placed .entry)) (now (chunks .entry))) ⌝ }
+    ensures { λ r. ⌜ left r (now (answer .exit)) (now (placed .exit)) (now (chunks .exit))
+        ≡ laying (layout (now (declarations .entry)) (now (fields .entry)) index (now (placed .entry)) (now (chunks .entry))) ⌝ }
 {
     let r = layout::lay_out(declarations, fields, index, placed, chunks);
     *answer = [r.place as u64, r.placed as u64, r.chunks as u64];

@@ -19,7 +19,12 @@ pub extern "C" fn pdl_read(
     counts: &mut [u64; 5],
     endianness: &mut [u64; numbers::ENDIANNESS_WORDS],
 ) -> u64
-    ensures { λ r. ⌜ crossed r (now (refusal .exit)) (now (counts .exit)) (now (endianness .exit)) (lending (now (declarations .exit)) (now (fields .exit)) (now (tags .exit)) (now (constraints .exit)) (now (comments .exit))) ≡ crossing (answer (now (s .entry)) (lending (now (declarations .entry)) (now (fields .entry)) (now (tags .entry)) (now (constraints .entry)) (now (comments .entry)))) ⌝ }
+    ensures { λ r.
+        ⌜ crossed r (now (refusal .exit)) (now (counts .exit)) (now (endianness .exit))
+        (lending (now (declarations .exit)) (now (fields .exit)) (now (tags .exit)) (now (constraints .exit)) (now (comments .exit)))
+        ≡ crossing
+        (answer (now (s .entry)) (lending (now (declarations .entry)) (now (fields .entry)) (now (tags .entry)) (now (constraints .entry))
+        (now (comments .entry)))) ⌝ }
 {
     let r = reading::read(s, declarations, fields, tags, constraints, comments);
     let rows = r.counts;

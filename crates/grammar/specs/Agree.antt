@@ -20,15 +20,18 @@ join-is : (n f : ℕ) (w : Forest) (o : Out) → outcome (joinO n f w o) ≡ joi
 join-is n f w (missed g) = refl
 join-is n f w (took k g v) = refl
 
-after-is : (x : Out) (p : ℕ → List ℕ → Out) (q : List ℕ → Match) (o : ℕ) (t : List ℕ) → ((i : ℕ) (u : List ℕ) → outcome (p i u) ≡ q u) → outcome (afterO x p o t) ≡ after (outcome x) q t
+after-is : (x : Out) (p : ℕ → List ℕ → Out) (q : List ℕ → Match) (o : ℕ) (t : List ℕ) → ((i : ℕ) (u : List ℕ) → outcome (p i u) ≡ q u)
+    → outcome (afterO x p o t) ≡ after (outcome x) q t
 after-is (missed f) p q o t h = refl
 after-is (took n f w) p q o t h = join-is n f w (p (o + n) (drop n t)) ∙ ap (join n f) (h (o + n) (drop n t))
 
-orElse-is : (x : Out) (p : ℕ → List ℕ → Out) (q : List ℕ → Match) (o : ℕ) (t : List ℕ) → outcome (p o t) ≡ q t → outcome (orElseO x p o t) ≡ orElse (outcome x) q t
+orElse-is : (x : Out) (p : ℕ → List ℕ → Out) (q : List ℕ → Match) (o : ℕ) (t : List ℕ) → outcome (p o t) ≡ q t
+    → outcome (orElseO x p o t) ≡ orElse (outcome x) q t
 orElse-is (missed f) p q o t h = join-is 0 f nil (p o t) ∙ ap (join 0 f) h
 orElse-is (took n f w) p q o t h = refl
 
-pub again-is : (x : Out) (p : ℕ → List ℕ → Out) (q : List ℕ → Match) (o : ℕ) (t : List ℕ) → ((i : ℕ) (u : List ℕ) → outcome (p i u) ≡ q u) → outcome (againO x p o t) ≡ again (outcome x) q t
+pub again-is : (x : Out) (p : ℕ → List ℕ → Out) (q : List ℕ → Match) (o : ℕ) (t : List ℕ) → ((i : ℕ) (u : List ℕ) → outcome (p i u) ≡ q u)
+    → outcome (againO x p o t) ≡ again (outcome x) q t
 again-is (missed f) p q o t h = refl
 again-is (took n f w) p q o t h = join-is n f w (p (o + n) (drop n t)) ∙ ap (join n f) (h (o + n) (drop n t))
 
@@ -48,10 +51,12 @@ note-is : (r : Rule) (o : ℕ) (x : Out) → outcome (noteO r o x) ≡ outcome x
 note-is r o (missed f) = refl
 note-is r o (took n f w) = refl
 
-many-is : (k : ℕ) (p : ℕ → List ℕ → Out) (q : List ℕ → Match) → ((i : ℕ) (u : List ℕ) → outcome (p i u) ≡ q u) → (o : ℕ) (t : List ℕ) → outcome (manyO k p o t) ≡ many k q t
+many-is : (k : ℕ) (p : ℕ → List ℕ → Out) (q : List ℕ → Match) → ((i : ℕ) (u : List ℕ) → outcome (p i u) ≡ q u) → (o : ℕ) (t : List ℕ)
+    → outcome (manyO k p o t) ≡ many k q t
 unfolding manyO many
 many-is zero p q h o t = refl
-many-is (suc k) p q h o t = again-is (p o t) (λ i u. manyO k p i u) (λ u. many k q u) o t (λ i u. many-is k p q h i u) ∙ ap (λ (m : Match). again m (λ u. many k q u) t) (h o t)
+many-is (suc k) p q h o t = again-is (p o t) (λ i u. manyO k p i u) (λ u. many k q u) o t (λ i u. many-is k p q h i u)
+    ∙ ap (λ (m : Match). again m (λ u. many k q u) t) (h o t)
 
 pub same : (g : Peg) (o : ℕ) (t : List ℕ) → outcome (eval g o t) ≡ run g t
 unfolding eval run
@@ -61,7 +66,8 @@ same any o t = leaf-is (oneLetter (character t))
 same any-byte o t = leaf-is (oneByte (λ x. true) t)
 same end o t = leaf-is (atEnd t)
 same (neg p) o t = turned-is (eval p o t) ∙ ap turned (same p o t)
-same (seq a b) o t = after-is (eval a o t) (λ i u. eval b i u) (λ u. run b u) o t (λ i u. same b i u) ∙ ap (λ (m : Match). after m (λ u. run b u) t) (same a o t)
+same (seq a b) o t = after-is (eval a o t) (λ i u. eval b i u) (λ u. run b u) o t (λ i u. same b i u)
+    ∙ ap (λ (m : Match). after m (λ u. run b u) t) (same a o t)
 same (alt a b) o t = orElse-is (eval a o t) (λ i u. eval b i u) (λ u. run b u) o t (same b o t) ∙ ap (λ (m : Match). orElse m (λ u. run b u) t) (same a o t)
 same (star p) o t = many-is (suc (length t)) (λ i u. eval p i u) (λ u. run p u) (λ i u. same p i u) o t
 same (opt p) o t = maybe-is (eval p o t) ∙ ap maybe (same p o t)

@@ -71,7 +71,8 @@ leaf {m} {g} {t} {r} {k} e s =
     }
 
 -- ---- one part after another
-pub then : {m : Match} {a b : Peg} {t : List ℕ} {x r : Match} {v w : ℕ → Forest} → Follows m a t x v → Follows x b t r w → Follows m (seq a b) t r (λ o. v o ⊕ w o)
+pub then : {m : Match} {a b : Peg} {t : List ℕ} {x r : Match} {v w : ℕ → Forest} → Follows m a t x v → Follows x b t r w
+    → Follows m (seq a b) t r (λ o. v o ⊕ w o)
 then {m} {a} {b} {t} {x} {r} {v} {w} f g =
     record { steps = link (f .steps) (g .steps); draws = λ h o. go h o (hit-before x (λ u. run (bytewise b) u) t (ap hit (sym (g .steps .is)) ∙ h)) }
   where
@@ -90,7 +91,8 @@ then {m} {a} {b} {t} {x} {r} {v} {w} f g =
         (ap₂ (λ (i : ℕ) (u : List ℕ). nodes (bytewise b) i u) (omega (arith, e)) d ∙ g .draws h o)
 
 -- ---- a rule's own node
-pub noted : {g : Peg} {t : List ℕ} {r : Match} {w : ℕ → Forest} (k : Rule) → is Rule.COMMENT k ≡ false → Draws g t r w → Draws (rule k g) t r (λ o. tree k o (taken r) (w o) nil)
+pub noted : {g : Peg} {t : List ℕ} {r : Match} {w : ℕ → Forest} (k : Rule) → is Rule.COMMENT k ≡ false → Draws g t r w
+    → Draws (rule k g) t r (λ o. tree k o (taken r) (w o) nil)
 noted {g} {t} {r} {w} k c d =
     record {
       reads = named k (d .reads);
@@ -114,7 +116,8 @@ stay-hit : (m x : Match) → hit (stay m x) ≡ true → hit m ≡ true
 stay-hit (Missed f) x e = e
 stay-hit (Took n f) x e = refl
 
-pub maybe : {m : Match} {g : Peg} {t : List ℕ} {x r : Match} {w : ℕ → Forest} → Within m t → Follows m g t x w → r ≡ stay m x → Follows m (opt g) t r (λ o. pick (hit x) (w o) nil)
+pub maybe : {m : Match} {g : Peg} {t : List ℕ} {x r : Match} {w : ℕ → Forest} → Within m t → Follows m g t x w → r ≡ stay m x
+    → Follows m (opt g) t r (λ o. pick (hit x) (w o) nil)
 maybe {m} {g} {t} {x} {r} {w} i f e =
     record {
       steps = option i (f .steps) e;
@@ -135,7 +138,8 @@ first {a} {b} {t} {x} {v} n f d e =
           ∙ pick-same _ true _ _ (nodes (bytewise b) o t) (ap hit (sym (d .reads .is) ∙ e)) (λ z. d .draws h o);
     }
 
-pub second : {a b : Peg} {t : List ℕ} {x y r : Match} {w : ℕ → Forest} (f : ℕ) → Reads a t x → x ≡ Missed f → Draws b t y w → r ≡ join 0 f y → Draws (alt a b) t r w
+pub second : {a b : Peg} {t : List ℕ} {x y r : Match} {w : ℕ → Forest} (f : ℕ) → Reads a t x → x ≡ Missed f → Draws b t y w → r ≡ join 0 f y
+    → Draws (alt a b) t r w
 second {a} {b} {t} {x} {y} {r} {w} f d e k q =
     record {
       reads = choice d (tried f (d .fits) e (k .reads) q);
@@ -159,7 +163,8 @@ alt-miss (Missed f) p q t g h = refl
 alt-miss (Took n f) p q t g h = go (p (drop n t)) h
   where
     go : (x : Match) → join n f x ≡ Missed g → join n g (q (drop n t)) ≡ join n f (orElse x q (drop n t))
-    go (Missed i) e = let r : max f (lift n i) ≡ g = cc in ap₂ (λ (a b : ℕ). join a b (q (drop n t))) (omega arith) (sym r) ∙ sym (join-join n f 0 i (q (drop n t)))
+    go (Missed i) e = let r : max f (lift n i) ≡ g = cc in ap₂ (λ (a b : ℕ). join a b (q (drop n t))) (omega arith) (sym r)
+        ∙ sym (join-join n f 0 i (q (drop n t)))
     go (Took j i) e = cc
 
 pub one : {m : Match} {a b : Peg} {t : List ℕ} {x : Match} {v : ℕ → Forest} (k g : ℕ) → Follows m a t x v → x ≡ Took k g → Follows m (alt a b) t x v
@@ -180,19 +185,22 @@ stay-taken : (m : Match) (g : ℕ) → taken (stay m (Missed g)) ≡ taken m
 stay-taken (Missed f) g = refl
 stay-taken (Took n f) g = refl
 
-pub other : {m : Match} {a b : Peg} {t : List ℕ} {x y r : Match} {w : ℕ → Forest} (g : ℕ) → Steps m a t x → x ≡ Missed g → y ≡ stay m x → Follows y b t r w → Follows m (alt a b) t r w
+pub other : {m : Match} {a b : Peg} {t : List ℕ} {x y r : Match} {w : ℕ → Forest} (g : ℕ) → Steps m a t x → x ≡ Missed g → y ≡ stay m x → Follows y b t r w
+    → Follows m (alt a b) t r w
 unfolding run
 other {m} {a} {b} {t} {x} {y} {r} {w} g s e q f =
     let j : taken m ≡ taken y = sym (ap taken (q ∙ ap (stay m) e) ∙ stay-taken m g) in
     record {
       steps =
           record {
-            is = f .steps .is ∙ ap (λ (z : Match). after z (λ u. run (bytewise b) u) t) (q ∙ ap (stay m) e) ∙ alt-miss m (λ u. run (bytewise a) u) (λ u. run (bytewise b) u) t g (sym (s .is) ∙ e);
+            is = f .steps .is ∙ ap (λ (z : Match). after z (λ u. run (bytewise b) u) t) (q ∙ ap (stay m) e)
+                ∙ alt-miss m (λ u. run (bytewise a) u) (λ u. run (bytewise b) u) t g (sym (s .is) ∙ e);
             fits = f .steps .fits;
           };
       draws = λ h o.
           nodes-alt (bytewise a) (bytewise b) (o + taken m) (drop (taken m) t)
-          ∙ pick-false _ _ _ (missed-part m (λ u. run (bytewise a) u) t g (stay-hit m x (ap hit (sym q) ∙ hit-before y (λ u. run (bytewise b) u) t (ap hit (sym (f .steps .is)) ∙ h))) (sym (s .is) ∙ e))
+          ∙ pick-false _ _ _ (missed-part m (λ u. run (bytewise a) u) t g (stay-hit m x (ap hit (sym q)
+          ∙ hit-before y (λ u. run (bytewise b) u) t (ap hit (sym (f .steps .is)) ∙ h))) (sym (s .is) ∙ e))
           ∙ ap (λ (i : ℕ). nodes (bytewise b) (o + i) (drop i t)) j
           ∙ f .draws h o;
     }

@@ -116,7 +116,11 @@ module _ (p' p : ℕ → List ℕ → Out) (h : Alike p' p) where
 
   alike-again : (x : Out) (o : ℕ) (t : List ℕ) → Chars t → Keeps x t → (againO x p' o t ≡ againO x p o t) × Keeps (againO x p o t) t
   alike-again (missed f) o t c k = (refl, c)
-  alike-again (took n f w) o t c k = let r = h (o + n) (drop n t) k in (ap (λ (y : Out). joinO n f w y) (r .0), keeps-join n f w (p (o + n) (drop n t)) t (r .1))
+  alike-again (took n f w) o t c k = let r = h (o + n) (drop n t) k in (
+    ap (λ (y : Out). joinO n f w y) (r .0),
+    keeps-join n f w (p (o + n) (drop n t)) t
+        (r .1),
+  )
 
 pub alike-many : (p' p : ℕ → List ℕ → Out) → Alike p' p → (k : ℕ) → Alike (λ i u. manyO k p' i u) (λ i u. manyO k p i u)
 unfolding manyO
@@ -186,11 +190,13 @@ stop : (b : Bool) (n : ℕ) (q e : ℕ → List ℕ → Out) (o : ℕ) (t : List
 stop true n q e o t h = refl
 stop false n q e o t h = absurd (let z : _≡_ {A = ℕ} 0 1 = cc in omega arith)
 
-byte-step : (b : Bool) (n : ℕ) (e : ℕ → List ℕ → Out) (o y : ℕ) (t : List ℕ) → b ≡ false → againO (guard b n aByte o (y ∷ t)) e o (y ∷ t) ≡ joinO 1 0 nil (e (o + 1) t)
+byte-step : (b : Bool) (n : ℕ) (e : ℕ → List ℕ → Out) (o y : ℕ) (t : List ℕ) → b ≡ false
+    → againO (guard b n aByte o (y ∷ t)) e o (y ∷ t) ≡ joinO 1 0 nil (e (o + 1) t)
 byte-step true n e o y t h = absurd (let z : _≡_ {A = ℕ} 0 1 = cc in omega arith)
 byte-step false n e o y t h = refl
 
-letter-step : (c n : ℕ) (e : ℕ → List ℕ → Out) (o : ℕ) (t : List ℕ) → suc n ≡ c → againO (joinO 0 0 nil (leaf (oneLetter c))) e o t ≡ joinO (suc n) 0 nil (e (o + suc n) (drop (suc n) t))
+letter-step : (c n : ℕ) (e : ℕ → List ℕ → Out) (o : ℕ) (t : List ℕ) → suc n ≡ c
+    → againO (joinO 0 0 nil (leaf (oneLetter c))) e o t ≡ joinO (suc n) 0 nil (e (o + suc n) (drop (suc n) t))
 letter-step zero n e o t h = absurd (omega arith)
 letter-step (suc m) n e o t h = ap (λ (k : ℕ). joinO k 0 nil (e (o + k) (drop k t))) (omega arith)
 
@@ -214,11 +220,13 @@ module _ (x : ℕ) (l : List ℕ) (hx : x ≤ 127) where
   abbrev pub by-char : Peg
   by-char = seq (neg (lit (x ∷ l))) any
 
-  turn-byte : (o : ℕ) (t : List ℕ) → eval (star by-byte) o t ≡ againO (guard (prefixb (x ∷ l) t) (length (x ∷ l)) aByte o t) (λ i u. eval (star by-byte) i u) o t
+  turn-byte : (o : ℕ) (t : List ℕ)
+      → eval (star by-byte) o t ≡ againO (guard (prefixb (x ∷ l) t) (length (x ∷ l)) aByte o t) (λ i u. eval (star by-byte) i u) o t
   unfolding eval
   turn-byte o t = unrollO by-byte refl o t
 
-  turn-char : (o : ℕ) (t : List ℕ) → eval (star by-char) o t ≡ againO (guard (prefixb (x ∷ l) t) (length (x ∷ l)) aChar o t) (λ i u. eval (star by-char) i u) o t
+  turn-char : (o : ℕ) (t : List ℕ)
+      → eval (star by-char) o t ≡ againO (guard (prefixb (x ∷ l) t) (length (x ∷ l)) aChar o t) (λ i u. eval (star by-char) i u) o t
   unfolding eval
   turn-char o t = unrollO by-char refl o t
 
@@ -237,16 +245,19 @@ module _ (x : ℕ) (l : List ℕ) (hx : x ≤ 127) where
       ∙ ap (λ (k : ℕ). joinO k 0 nil (eval (star by-byte) (o + 1 + n) (drop n t))) (omega arith)
       ∙ ap (λ (k : ℕ). joinO (suc n) 0 nil (eval (star by-byte) k (drop n t))) (omega arith)
 
-  one-byte : (t : List ℕ) (n o : ℕ) → character t ≡ suc n → n ≡ 0 → prefixb (x ∷ l) t ≡ false → eval (star by-byte) o t ≡ joinO (suc n) 0 nil (eval (star by-byte) (o + suc n) (drop (suc n) t))
+  one-byte : (t : List ℕ) (n o : ℕ) → character t ≡ suc n → n ≡ 0 → prefixb (x ∷ l) t ≡ false
+      → eval (star by-byte) o t ≡ joinO (suc n) 0 nil (eval (star by-byte) (o + suc n) (drop (suc n) t))
   one-byte [] n o e z h = absurd (no-char n e)
   one-byte (y ∷ t) n o e z h = step-byte o y t h ∙ ap (λ (k : ℕ). joinO (suc k) 0 nil (eval (star by-byte) (o + suc k) (drop (suc k) (y ∷ t)))) (sym z)
 
-  over-kind : (t : List ℕ) (n o : ℕ) → character t ≡ suc n → Kind n t → prefixb (x ∷ l) t ≡ false → eval (star by-byte) o t ≡ joinO (suc n) 0 nil (eval (star by-byte) (o + suc n) (drop (suc n) t))
+  over-kind : (t : List ℕ) (n o : ℕ) → character t ≡ suc n → Kind n t → prefixb (x ∷ l) t ≡ false
+      → eval (star by-byte) o t ≡ joinO (suc n) 0 nil (eval (star by-byte) (o + suc n) (drop (suc n) t))
   over-kind t n o e (one z) h = one-byte t n o e z h
   over-kind t n o e (wide w) h = run-high (suc n) t o w
 
   upto-one : (b : Bool) (t : List ℕ) (n o : ℕ) → prefixb (x ∷ l) t ≡ b → character t ≡ suc n → Chars t
-      → (eval (star by-byte) (o + suc n) (drop (suc n) t) ≡ eval (star by-char) (o + suc n) (drop (suc n) t)) × Keeps (eval (star by-char) (o + suc n) (drop (suc n) t)) (drop (suc n) t)
+      → (eval (star by-byte) (o + suc n) (drop (suc n) t) ≡ eval (star by-char) (o + suc n) (drop (suc n) t))
+      × Keeps (eval (star by-char) (o + suc n) (drop (suc n) t)) (drop (suc n) t)
       → (eval (star by-byte) o t ≡ eval (star by-char) o t) × Keeps (eval (star by-char) o t) t
   upto-one true t n o b e c r =
       let p = turn-byte o t ∙ stop (prefixb (x ∷ l) t) (length (x ∷ l)) aByte (λ i u. eval (star by-byte) i u) o t b in

@@ -37,7 +37,8 @@ clean-join : (n f : ℕ) (w : Forest) (x : Out) → hit (outcome x) ≡ true →
 clean-join n f w (missed g) e = no-hit g e
 clean-join n f w (took k g v) e = clean-⊕ w v
 
-clean-after : (x : Out) (q : ℕ → List ℕ → Out) (o : ℕ) (t : List ℕ) → hit (outcome x) ≡ true → hit (outcome (q (o + taken (outcome x)) (drop (taken (outcome x)) t))) ≡ true
+clean-after : (x : Out) (q : ℕ → List ℕ → Out) (o : ℕ) (t : List ℕ) → hit (outcome x) ≡ true
+    → hit (outcome (q (o + taken (outcome x)) (drop (taken (outcome x)) t))) ≡ true
     → clean (forest (afterO x q o t)) ≡ clean (forest x) ⊕ clean (forest (q (o + taken (outcome x)) (drop (taken (outcome x)) t)))
 clean-after (missed f) q o t e h = no-hit f e
 clean-after (took n f w) q o t e h = clean-join n f w (q (o + n) (drop n t)) h
@@ -64,11 +65,13 @@ nodes-seq a b o t h k =
     clean-after (eval a o t) (λ i u. eval b i u) o t (hit-same a o t h) q
     ∙ ap (λ (n : ℕ). clean (forest (eval a o t)) ⊕ clean (forest (eval b (o + n) (drop n t)))) e
 
-clean-note : (r : Rule) (o : ℕ) (x : Out) → is Rule.COMMENT r ≡ false → hit (outcome x) ≡ true → clean (forest (noteO r o x)) ≡ tree r o (taken (outcome x)) (clean (forest x)) nil
+clean-note : (r : Rule) (o : ℕ) (x : Out) → is Rule.COMMENT r ≡ false → hit (outcome x) ≡ true
+    → clean (forest (noteO r o x)) ≡ tree r o (taken (outcome x)) (clean (forest x)) nil
 clean-note r o (missed f) e h = no-hit f h
 clean-note r o (took n f w) e h = rw e
 
-pub nodes-rule : (r : Rule) (g : Peg) (o : ℕ) (t : List ℕ) → is Rule.COMMENT r ≡ false → hit (run g t) ≡ true → nodes (rule r g) o t ≡ tree r o (taken (run g t)) (nodes g o t) nil
+pub nodes-rule : (r : Rule) (g : Peg) (o : ℕ) (t : List ℕ) → is Rule.COMMENT r ≡ false → hit (run g t) ≡ true
+    → nodes (rule r g) o t ≡ tree r o (taken (run g t)) (nodes g o t) nil
 unfolding nodes eval
 nodes-rule r g o t e h =
     clean-note r o (eval g o t) e (hit-same g o t h) ∙ ap (λ (m : Match). tree r o (taken m) (clean (forest (eval g o t))) nil) (same g o t)
@@ -81,7 +84,8 @@ pub nodes-opt : (g : Peg) (o : ℕ) (t : List ℕ) → nodes (opt g) o t ≡ pic
 unfolding nodes eval
 nodes-opt g o t = clean-maybe (eval g o t) ∙ ap (λ (m : Match). pick (hit m) (clean (forest (eval g o t))) nil) (same g o t)
 
-clean-or : (x : Out) (q : ℕ → List ℕ → Out) (o : ℕ) (t : List ℕ) → clean (forest (orElseO x q o t)) ≡ pick (hit (outcome x)) (clean (forest x)) (clean (forest (q o t)))
+clean-or : (x : Out) (q : ℕ → List ℕ → Out) (o : ℕ) (t : List ℕ)
+    → clean (forest (orElseO x q o t)) ≡ pick (hit (outcome x)) (clean (forest x)) (clean (forest (q o t)))
 clean-or (took n f w) q o t = refl
 clean-or (missed f) q o t = go (q o t)
   where

@@ -59,7 +59,8 @@ pos-letter : (n : ℕ) → Pos (oneLetter n)
 pos-letter zero = tt
 pos-letter (suc n) = omega arith
 
-pos-seq : (a b : Bool) (m : Match) (p : List ℕ → Match) (t : List ℕ) → pick a true b ≡ true → (a ≡ true → Pos m) → (b ≡ true → (u : List ℕ) → Pos (p u)) → Pos (after m p t)
+pos-seq : (a b : Bool) (m : Match) (p : List ℕ → Match) (t : List ℕ) → pick a true b ≡ true → (a ≡ true → Pos m) → (b ≡ true → (u : List ℕ) → Pos (p u))
+    → Pos (after m p t)
 pos-seq true b m p t e f g = pos-after-left m p t (f refl)
 pos-seq false b m p t e f g = pos-after-right m p t (g e)
 
@@ -92,7 +93,8 @@ module _ (p : ℕ → List ℕ → Out) (inside : (i : ℕ) (u : List ℕ) → W
   unfolding manyO
   fuelO zero k o t hj hk = absurd (omega arith)
   fuelO (suc j) zero o t hj hk = absurd (omega arith)
-  fuelO (suc j) (suc k) o t hj hk = go (p o t) (inside o t) (pos o t) (λ n h g. fuelO j k (o + n) (drop n t) (omega (arith, length-drop n t)) (omega (arith, length-drop n t)))
+  fuelO (suc j) (suc k) o t hj hk = go (p o t) (inside o t) (pos o t) (λ n h g. fuelO j k (o + n) (drop n t) (omega (arith, length-drop n t))
+      (omega (arith, length-drop n t)))
     where
       go : (x : Out) → Within (outcome x) t → Pos (outcome x) → ((n : ℕ) → n ≤ length t → 0 < n → manyO j p (o + n) (drop n t) ≡ manyO k p (o + n) (drop n t))
           → againO x (λ i u. manyO j p i u) o t ≡ againO x (λ i u. manyO k p i u) o t
@@ -103,9 +105,12 @@ module _ (p : ℕ → List ℕ → Out) (inside : (i : ℕ) (u : List ℕ) → W
   unfolding manyO
   unroll-manyO o t = go (p o t) (inside o t) (pos o t)
     where
-      go : (x : Out) → Within (outcome x) t → Pos (outcome x) → againO x (λ i u. manyO (length t) p i u) o t ≡ againO x (λ i u. manyO (suc (length u)) p i u) o t
+      go : (x : Out) → Within (outcome x) t → Pos (outcome x)
+          → againO x (λ i u. manyO (length t) p i u) o t ≡ againO x (λ i u. manyO (suc (length u)) p i u) o t
       go (missed f) w q = refl
-      go (took n f v) w q = ap (λ (y : Out). joinO n f v y) (fuelO (length t) (suc (length (drop n t))) (o + n) (drop n t) (let a : n ≤ length t = w .0 in let b : 0 < n = q in omega (arith, length-drop n t)) (omega arith))
+      go (took n f v) w q = ap (λ (y : Out). joinO n f v y)
+          (fuelO (length t) (suc (length (drop n t))) (o + n) (drop n t) (let a : n ≤ length t = w .0 in let b : 0 < n = q in omega (arith, length-drop n t))
+          (omega arith))
 
 pub unrollO : (p : Peg) → eats p ≡ true → (o : ℕ) (t : List ℕ) → eval (star p) o t ≡ againO (eval p o t) (λ i u. eval (star p) i u) o t
 unfolding eval

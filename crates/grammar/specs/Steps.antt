@@ -76,7 +76,11 @@ chain {a} {b} {t} {m} {r} h k = record { is = k .is ∙ ap (λ (x : Match). afte
 pub link : {a b : Peg} {t : List ℕ} {m x r : Match} → Steps m a t x → Steps x b t r → Steps m (seq a b) t r
 unfolding run
 link {a} {b} {t} {m} {x} {r} h k =
-    record { is = k .is ∙ ap (λ (y : Match). after y (λ u. run (bytewise b) u) t) (h .is) ∙ sym (after-seq m (λ u. run (bytewise a) u) (λ u. run (bytewise b) u) t); fits = k .fits }
+    record {
+      is = k .is ∙ ap (λ (y : Match). after y (λ u. run (bytewise b) u) t) (h .is)
+          ∙ sym (after-seq m (λ u. run (bytewise a) u) (λ u. run (bytewise b) u) t);
+      fits = k .fits;
+    }
 
 -- a step from the start is a match
 pub start : {g : Peg} {t : List ℕ} {r : Match} → Steps (Took 0 0) g t r → Reads g t r
@@ -94,7 +98,8 @@ marked k h = record { is = h .is; fits = h .fits }
 pub missed : {g : Peg} {t : List ℕ} {m : Match} (f : ℕ) → Within m t → m ≡ Missed f → Steps m g t (Missed f)
 missed {g} {t} {m} f w e = steps m g t (Missed f) w (ap (λ (x : Match). after x (λ u. run (bytewise g) u) t) (sym e))
 
-pub took : {g : Peg} {t : List ℕ} {m x r : Match} (n f : ℕ) → Within m t → m ≡ Took n f → Reads g (take (length t - n) (drop n t)) x → r ≡ join n f x → Steps m g t r
+pub took : {g : Peg} {t : List ℕ} {m x r : Match} (n f : ℕ) → Within m t → m ≡ Took n f → Reads g (take (length t - n) (drop n t)) x → r ≡ join n f x
+    → Steps m g t r
 took {g} {t} {m} {x} {r} n f w e h k =
     steps m g t r w (k ∙ ap (λ (y : Match). join n f y) (at n t h .is) ∙ ap (λ (y : Match). after y (λ u. run (bytewise g) u) t) (sym e))
 
@@ -147,7 +152,8 @@ module _ (p : Peg) (e : eats p ≡ true) (t : List ℕ) where
     where
       go : (x : Match) → join n f x ≡ Took k g → join n f (again x (λ u. run (star p) u) (drop n t)) ≡ join k g (run (star p) (drop k t))
       go (Missed j) q = cc
-      go (Took j i) q = join-join n f j i (run (star p) (drop j (drop n t))) ∙ ap (λ (u : List ℕ). join (n + j) (max f (lift n i)) (run (star p) u)) (drop-drop j n t) ∙ ap (λ (y : Match). after y (λ u. run (star p) u) t) q
+      go (Took j i) q = join-join n f j i (run (star p) (drop j (drop n t)))
+          ∙ ap (λ (u : List ℕ). join (n + j) (max f (lift n i)) (run (star p) u)) (drop-drop j n t) ∙ ap (λ (y : Match). after y (λ u. run (star p) u) t) q
 
   stop : (m : Match) (g : ℕ) → after m (λ u. run p u) t ≡ Missed g → stay m (Missed g) ≡ after m (λ u. run (star p) u) t
   stop (Missed f) g h = refl
@@ -175,15 +181,21 @@ rest-start t m w = record { fits = w; left = refl }
 
 pub rest-more : {p : Peg} {t : List ℕ} {m₀ m x : Match} (k g : ℕ) → eats (bytewise p) ≡ true → Rest p t m₀ m → Steps m p t x → x ≡ Took k g → Rest p t m₀ x
 rest-more {p} {t} {m₀} {m} {x} k g e h s q =
-    record { fits = s .fits; left = h .left ∙ turn (bytewise p) e t m k g (sym (s .is) ∙ q) ∙ ap (λ (y : Match). after y (λ u. run (star (bytewise p)) u) t) (sym q) }
+    record {
+      fits = s .fits;
+      left = h .left ∙ turn (bytewise p) e t m k g (sym (s .is) ∙ q)
+          ∙ ap (λ (y : Match). after y (λ u. run (star (bytewise p)) u) t) (sym q);
+    }
 
-pub rest-less : {p : Peg} {t : List ℕ} {m x : Match} (k g : ℕ) → eats (bytewise p) ≡ true → Steps m p t x → x ≡ Took k g → length t - taken x < length t - taken m
+pub rest-less : {p : Peg} {t : List ℕ} {m x : Match} (k g : ℕ) → eats (bytewise p) ≡ true → Steps m p t x → x ≡ Took k g
+    → length t - taken x < length t - taken m
 rest-less {p} {t} {m} {x} k g e s q =
     let a : taken m < k = grows (bytewise p) e t m k g (sym (s .is) ∙ q) in
     let b : k ≤ length t = took-le x t k g (s .fits) q in
     let d : taken x ≡ k = ap taken q in
     omega arith
 
-pub rest-done : {p : Peg} {t : List ℕ} {m₀ m x r : Match} (g : ℕ) → eats (bytewise p) ≡ true → Within m₀ t → Rest p t m₀ m → Steps m p t x → x ≡ Missed g → r ≡ stay m x → Steps m₀ (star p) t r
+pub rest-done : {p : Peg} {t : List ℕ} {m₀ m x r : Match} (g : ℕ) → eats (bytewise p) ≡ true → Within m₀ t → Rest p t m₀ m → Steps m p t x → x ≡ Missed g
+    → r ≡ stay m x → Steps m₀ (star p) t r
 rest-done {p} {t} {m₀} {m} {x} {r} g e w h s q k =
     steps m₀ (star p) t r w (k ∙ ap (stay m) q ∙ stop (bytewise p) e t m g (sym (s .is) ∙ q) ∙ sym (h .left))

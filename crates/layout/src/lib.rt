@@ -72,7 +72,8 @@ fn place_fields(
     chunks: &mut [u64],
 ) -> Aligner
     requires { ⌜ Accepted (now fields) first count (now placed) (now chunks) ⌝ }
-    ensures { λ r. ⌜ world r (now (placed .exit)) (now (chunks .exit)) ≡ feed-fields (now (fields .entry)) count first (world fresh (now (placed .entry)) (now (chunks .entry))) .left ⌝ }
+    ensures { λ r. ⌜ world r (now (placed .exit)) (now (chunks .exit))
+        ≡ feed-fields (now (fields .entry)) count first (world fresh (now (placed .entry)) (now (chunks .entry))) .left ⌝ }
 {
     let end = first + count;
     let mut a = Aligner::new();
@@ -118,7 +119,8 @@ pub fn lay_out(
     placed: &mut [u64],
     chunks: &mut [u64],
 ) -> Layout
-    ensures { λ r. ⌜ answered r (now (placed .exit)) (now (chunks .exit)) ≡ layout (now (declarations .entry)) (now (fields .entry)) index (now (placed .entry)) (now (chunks .entry)) ⌝ }
+    ensures { λ r. ⌜ answered r (now (placed .exit)) (now (chunks .exit))
+        ≡ layout (now (declarations .entry)) (now (fields .entry)) index (now (placed .entry)) (now (chunks .entry)) ⌝ }
 {
     let number = declaration_number(declarations, fields, index);
     if number != 0 {

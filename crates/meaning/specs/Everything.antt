@@ -13,5 +13,8 @@ use Rattle.meaning.specs.Alignment.{sound, due, bits-number, bytes-numbe
 use Rattle.meaning.specs.Feeding.{feed-field, feed-fields, feed-number, layout}
 
 unfoldable pub everything : ℕ
-unfolding character validFor many run manyO eval nodes rules fold moved startsFrom digits rowsOf firstBad put puts flat rows-in each numbers constraint-number constraint-row parse-constraint-list tag-row parse-enum-value parse-enum-range parse-enum-other parse-enum-tag describe parse-field parse-field-list parse-declaration parse-toplevel comments unmatched walked reading answer sound due bits-number bytes-number dyn-number end-number bits-done chunk-done call calls aligner-numbers feed-field feed-fields feed-number layout
+unfolding character validFor many run manyO eval nodes rules fold moved startsFrom digits rowsOf firstBad put puts flat rows-in each numbers constraint-number
+    constraint-row parse-constraint-list tag-row parse-enum-value parse-enum-range parse-enum-other parse-enum-tag describe parse-field parse-field-list
+    parse-declaration parse-toplevel comments unmatched walked reading answer sound due bits-number bytes-number dyn-number end-number bits-done
+    chunk-done call calls aligner-numbers feed-field feed-fields feed-number layout
 everything = 0

@@ -104,7 +104,8 @@ unfolding everything
 cut-behind-test = inr (inr (inr (inr (inr (inr (inr (inr (inr (inl (refl, refl))))))))))
 
 -- ---- inserted at the cut: what stood behind it, on its line, in column 23 and later
-pub all-inserted : moved-lines (inserted (placeAt old (length before-cut)) all-kinds (counts (keyword ++ all-kinds))) (counts before-cut) (items old) ≡ written (
+pub all-inserted : moved-lines (inserted (placeAt old (length before-cut)) all-kinds (counts (keyword ++ all-kinds))) (counts before-cut) (items old)
+    ≡ written (
     "D 1 453 10 1 473 10 21 458 1 0 0 1 8 4 1 0 0"
     ∷ "T 1 466 10 14 471 10 19 466 1 1 0 0"
     ∷ "M 2 474 10 22 480 10 28" ∷ [])

@@ -89,19 +89,22 @@ cases =
     ∷ reads "little_endian_packets" "R 3 0 0\n"
     ∷ reads "little_endian_packets\n" "E 1 0 0 0 22 1 0\n"
     -- P3
-    ∷ reads p3-source "E 1 0 0 0 22 1 0\nD 2 22 1 0 44 1 22 29 1 0 0 0 0 0 2 0 0\nF 12 32 1 10 37 1 15 32 1 0 0 0 0 1 3 0 0 0 0 0\nF 12 39 1 17 43 1 21 39 1 0 0 0 0 1 5 0 0 0 0 0\n"
+    ∷ reads p3-source
+    "E 1 0 0 0 22 1 0\nD 2 22 1 0 44 1 22 29 1 0 0 0 0 0 2 0 0\nF 12 32 1 10 37 1 15 32 1 0 0 0 0 1 3 0 0 0 0 0\nF 12 39 1 17 43 1 21 39 1 0 0 0 0 1 5 0 0 0 0 0\n"
     ∷ lays p3-source (0 ∷ 0 ∷ 2 ∷ 1 ∷ 0 ∷ 3 ∷ 0 ∷ 1 ∷ 5 ∷ 3 ∷ 0 ∷ 0 ∷ 0 ∷ 1 ∷ 0 ∷ 2 ∷ 8 ∷ 0 ∷ 0 ∷ 0 ∷ 0 ∷ 0 ∷ 0 ∷ [])
     -- P4
     ∷ reads "big_endian_packets\nenum E : 8 { A = 0x }" "R 3 19 0\n"
     -- P5
     ∷ reads "big_endian_packets\nenum E : 0X10 { A = 1 }" "R 4 28 2\n"
     -- P6
-    ∷ reads "big_endian_packets\nenum E : 18446744073709551615 { A = 1 }" "E 2 0 0 0 19 1 0\nD 1 19 1 0 58 1 39 24 1 0 0 1 18446744073709551615 0 1 0 0\nT 1 51 1 32 56 1 37 51 1 1 0 0\n"
+    ∷ reads "big_endian_packets\nenum E : 18446744073709551615 { A = 1 }"
+    "E 2 0 0 0 19 1 0\nD 1 19 1 0 58 1 39 24 1 0 0 1 18446744073709551615 0 1 0 0\nT 1 51 1 32 56 1 37 51 1 1 0 0\n"
     ∷ reads "big_endian_packets\nenum E : 18446744073709551616 { A = 1 }" "R 4 28 3\n"
     -- P7
     ∷ reads "big_endian_packets\npacket/**/A {}" "R 3 19 0\n"
     -- P8
-    ∷ reads "big_endian_packets\npacket A {x: 8ifb=1}" "E 2 0 0 0 19 1 0\nD 2 19 1 0 39 1 20 26 1 0 0 0 0 0 1 0 0\nF 12 29 1 10 38 1 19 29 1 0 0 0 0 1 8 0 0 0 0 1\nC 1 35 1 16 38 1 19 35 1 0 0 1\n"
+    ∷ reads "big_endian_packets\npacket A {x: 8ifb=1}"
+    "E 2 0 0 0 19 1 0\nD 2 19 1 0 39 1 20 26 1 0 0 0 0 0 1 0 0\nF 12 29 1 10 38 1 19 29 1 0 0 0 0 1 8 0 0 0 0 1\nC 1 35 1 16 38 1 19 35 1 0 0 1\n"
     -- P9
     ∷ reads "big_endian_packets\npacket A {_payload_: [+ 2]}" "R 3 19 0\n"
     -- P10

@@ -279,5 +279,10 @@ file-head = seq (SOI ~ endianness-declaration ~ repeat declaration) skip
 
 -- one name that opens every rule, for what is proved by computation
 unfoldable pub rules : ℕ
-unfolding WHITESPACE block-comment line-comment COMMENT skip alpha digit hexdigit alphanum identifier payload-identifier body-identifier intvalue hexvalue integer string size-modifier ENUM PACKET STRUCT GROUP CHECKSUM CUSTOM-FIELD TEST endianness-declaration enum-value enum-value-list enum-range enum-other enum-tag enum-tag-list enum-declaration constraint constraint-list checksum-field padding-field size-field count-field elementsize-field body-field payload-field fixed-field reserved-field array-field scalar-field typedef-field group-field field-desc field field-list packet-declaration struct-declaration group-declaration checksum-declaration custom-field-declaration test-case test-case-list test-declaration declaration SOI EOI file file-start file-line file-head
+unfolding WHITESPACE block-comment line-comment COMMENT skip alpha digit hexdigit alphanum identifier payload-identifier body-identifier intvalue hexvalue
+    integer string size-modifier ENUM PACKET STRUCT GROUP CHECKSUM CUSTOM-FIELD TEST endianness-declaration enum-value enum-value-list enum-range enum-other
+    enum-tag enum-tag-list enum-declaration constraint constraint-list checksum-field padding-field size-field count-field elementsize-field body-field
+    payload-field fixed-field reserved-field array-field scalar-field typedef-field group-field field-desc field field-list packet-declaration
+    struct-declaration group-declaration checksum-declaration custom-field-declaration test-case test-case-list test-declaration declaration SOI
+    EOI file file-start file-line file-head
 rules = 0

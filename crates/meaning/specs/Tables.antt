@@ -101,7 +101,13 @@ abbrev pub filled : List Item → Lent → Table → List ℕ
 filled xs l t = puts (size t) 0 (rowsOf t xs) (lent t l)
 
 abbrev pub fill : List Item → Lent → Lent
-fill xs l = record { w1 = filled xs l Table.declarations; w2 = filled xs l Table.fields; w3 = filled xs l Table.tags; w4 = filled xs l Table.constraints; w5 = filled xs l Table.comments }
+fill xs l = record {
+  w1 = filled xs l Table.declarations;
+  w2 = filled xs l Table.fields;
+  w3 = filled xs l Table.tags;
+  w4 = filled xs l Table.constraints;
+  w5 = filled xs l Table.comments;
+}
 
 -- refusal 5: the first of these tables that is too short, as its number; 0 if none is
 abbrev pub short : List Table → List Item → Lent → ℕ

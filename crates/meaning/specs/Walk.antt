@@ -219,7 +219,8 @@ parse-field-list src xs (tree r s l k more) =
 -- ---- parse_toplevel
 -- kinds of declarations; a test declaration has none
 abbrev pub kinds : List Rule
-kinds = Rule.enum-declaration ∷ Rule.packet-declaration ∷ Rule.struct-declaration ∷ Rule.group-declaration ∷ Rule.checksum-declaration ∷ Rule.custom-field-declaration ∷ []
+kinds = Rule.enum-declaration ∷ Rule.packet-declaration ∷ Rule.struct-declaration ∷ Rule.group-declaration ∷ Rule.checksum-declaration
+    ∷ Rule.custom-field-declaration ∷ []
 
 -- a declaration's items; those so far are xs. After the keyword and the id each kind has some of: parent, width, function text,
 -- constraints, tags, fields, in this order.

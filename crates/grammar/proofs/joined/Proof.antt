@@ -5,13 +5,21 @@ use Rattle.grammar.proofs.joined.Statement.{statement}
 use Rattle.grammar.proofs.joined.Tie as tie
 
 farther-requires : tie.Need-farther-requires
-farther-requires c κs = omega (arith, miss-sum _ _ _ (c .before .before .before .before .pre .0) (c .before .before .before .before .pre .1) _ (c .before .m .given .1))
+farther-requires c κs = omega (
+  arith,
+  miss-sum _ _ _ (c .before .before .before .before .pre .0) (c .before .before .before .before .pre .1) _
+      (c .before .m .given .1),
+)
 
 add-t10 : tie.Need-add-t10
 add-t10 c = omega (arith, took-sum _ _ _ (c .before .before .before .before .pre .0) (c .before .before .before .before .pre .1) _ _ (c .before .m2 .given .1))
 
 farther-requires-2 : tie.Need-farther-requires-2
-farther-requires-2 c κs = omega (arith, took-sum _ _ _ (c .before .before .before .before .pre .0) (c .before .before .before .before .pre .1) _ _ (c .before .m2 .given .1))
+farther-requires-2 c κs = omega (
+  arith,
+  took-sum _ _ _ (c .before .before .before .before .pre .0) (c .before .before .before .before .pre .1) _ _
+      (c .before .m2 .given .1),
+)
 
 returns : tie.Need-returns
 returns c = join-miss _ _ _ _ _ (c .before .before .m .given .1) (c .farther .ensures)

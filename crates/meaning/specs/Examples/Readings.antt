@@ -143,7 +143,8 @@ pub places : Hold (
     ∷ "M 1 1 0 1 7 0 7" ∷ []))
     -- comments in a declaration and behind it, in their order
     ∷ (lines-of "big_endian_packets\npacket A {/*a*/ x: 8 //b\n}//c" are
-    written ("E 2 0 0 0 19 1 0" ∷ "D 2 19 1 0 45 2 1 26 1 0 0 0 0 0 1 0 0" ∷ "F 12 35 1 16 44 2 0 35 1 0 0 0 0 1 8 0 0 0 0 0" ∷ "M 1 29 1 10 34 1 15" ∷ "M 2 40 1 21 43 1 24" ∷ "M 2 45 2 1 48 2 4" ∷ []))
+    written ("E 2 0 0 0 19 1 0" ∷ "D 2 19 1 0 45 2 1 26 1 0 0 0 0 0 1 0 0" ∷ "F 12 35 1 16 44 2 0 35 1 0 0 0 0 1 8 0 0 0 0 0" ∷ "M 1 29 1 10 34 1 15"
+    ∷ "M 2 40 1 21 43 1 24" ∷ "M 2 45 2 1 48 2 4" ∷ []))
     ∷ (lines-of "  x" are bytes "R 3 2 0\n")
     ∷ (lines-of "//c\n/**/ x" are bytes "R 3 9 0\n")
     ∷ (lines-of "big_endian_packet\n" are bytes "R 3 0 0\n")

@@ -8,10 +8,12 @@ returns : tie.Need-returns
 returns c = one-none (c .before .before .args .class) (c .before .before .args .s .now) (c .if1 .taken)
 
 returns-2 : tie.Need-returns-2
-returns-2 c = one-is (c .before .before .before .before .before .args .class) (c .before .before .before .before .before .args .s .now) _ (c .before .before .before .if1 .left) (c .before .in-class .ensures) (c .if2 .taken)
+returns-2 c = one-is (c .before .before .before .before .before .args .class) (c .before .before .before .before .before .args .s .now) _
+    (c .before .before .before .if1 .left) (c .before .in-class .ensures) (c .if2 .taken)
 
 returns-3 : tie.Need-returns-3
-returns-3 c = one-not (c .before .before .before .before .before .args .class) (c .before .before .before .before .before .args .s .now) _ (c .before .before .before .if1 .left) (c .before .in-class .ensures) (c .if2 .left)
+returns-3 c = one-not (c .before .before .before .before .before .args .class) (c .before .before .before .before .before .args .s .now) _
+    (c .before .before .before .if1 .left) (c .before .in-class .ensures) (c .if2 .left)
 
 pub one-spec : {M : Type 1} → statement M
 one-spec =

@@ -8,4 +8,5 @@ returns : tie.Need-returns
 returns c = ap crossing (c .before .before .before .before .before .before .before .before .before .before .before .before .before .read .ensures)
 
 pub pdl-read-spec : {M : Type 1} → statement M
-pdl-read-spec = tie.close (tie.spec (λ c κs. search needs) (λ c. search needs) (λ c. search needs) (λ c. search needs) (λ c. search needs) (λ c. search needs) returns)
+pdl-read-spec = tie.close (tie.spec (λ c κs. search needs) (λ c. search needs) (λ c. search needs) (λ c. search needs) (λ c. search needs) (λ c. search needs)
+    returns)
