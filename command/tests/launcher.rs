@@ -146,9 +146,11 @@ impl Checkout {
         let _ = fs::remove_file(self.top.join("running"));
     }
 
-    /// Starts the launcher, with nothing on its standard input.
+    /// Starts the launcher, with nothing on its standard input. It can be interrupted also where these tests run in the background of
+    /// a shell, which ignores interrupts there; a shell that starts so cannot undo that.
     fn begun(&self) -> Child {
-        let mut call = self.call(self.path("pdl"));
+        let mut call = self.call("/usr/bin/env");
+        call.arg("--default-signal=INT").arg(self.path("pdl"));
         call.stdin(Stdio::null()).stdout(Stdio::piped()).stderr(Stdio::piped()).spawn().unwrap()
     }
 
