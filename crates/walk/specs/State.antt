@@ -62,7 +62,7 @@ lend Table.constraints ws l = record { w1 = l .w1; w2 = l .w2; w3 = l .w3; w4 = 
 lend Table.comments ws l = record { w1 = l .w1; w2 = l .w2; w3 = l .w3; w4 = l .w4; w5 = ws }
 
 -- What a walk over these items does, from the state n to r, with the tables lent as a says and left as b says. Of the tables
--- that are not lent it says that no row is theirs.
+-- that are not lent it says, where the walk writes, that no row is theirs.
 pub record Wrote (xs : List Item) (n r : Walk) (a b : Lent → Lent) : Type 0 where
   pub door : r .door ≡ n .door
   pub sized : length (r .counts) ≡ length (n .counts)
