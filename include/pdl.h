@@ -55,7 +55,7 @@ enum {
     PDL_NO_MATCH = 3,              /* place: where the endianness line is missing, or neither a declaration nor the end follows */
     PDL_NOT_CONVERTED = 4,         /* place: the first byte of an integer; reason: see PDL_UNCONVERTED_EMPTY and on */
     PDL_TOO_FEW_ROWS = 5,          /* place: the number of a table; reason: how many rows it needs */
-    PDL_NAME_OUTSIDE = 6,          /* a name lies outside its source; no entry below brings it */
+    PDL_NAME_OUTSIDE = 6,          /* a name lies outside its source */
     PDL_BYTES_WHILE_STAGED = 10,   /* bytes start while bits are staged that fill no whole byte */
     PDL_NOT_WHOLE_BYTES = 11,      /* a width of bytes is no multiple of 8 */
     PDL_TOO_WIDE = 12,             /* more than PDL_MAX_CHUNK_WIDTH bits would stand in one chunk */
@@ -216,31 +216,73 @@ uint64_t pdl_layout(const uint64_t *declarations, size_t declarations_len,
                     uint64_t *chunks, size_t chunks_len,
                     uint64_t answer[3]);
 
+/* The state of an aligner: how many rows are placed, how many chunk rows there are, the first staged placed row, the staged width. All
+ * 0 to begin with. */
+typedef struct pdl_aligner {
+    size_t placed;
+    size_t chunks;
+    size_t start;
+    uint64_t width;
+} pdl_aligner;
+
+/* What the end of an alignment answers: the number of the refusal, or 0, and how many chunks there are, 0 where refused. */
+typedef struct pdl_ended {
+    uint64_t number;
+    size_t chunks;
+} pdl_ended;
+
+/* A chunk as a record: the words of a chunk row. */
+typedef struct pdl_chunk {
+    uint64_t kind;
+    uint64_t first;
+    uint64_t count;
+    uint64_t width;
+    uint64_t symbol;
+} pdl_chunk;
+
 /*
  * The aligner call by call, each answering the number of the refusal, or 0.
- * state: how many rows are placed, how many chunk rows there are, the first staged placed row, the staged width. All 0 to begin with.
  * A bit field is staged; where the staged bits fill whole bytes, they become a chunk. Bytes are a chunk each; a width is in bits.
  */
-uint64_t pdl_add_bitfield(uint64_t state[4],
+uint64_t pdl_add_bitfield(pdl_aligner *state,
                           uint64_t *placed, size_t placed_len,
                           uint64_t *chunks, size_t chunks_len,
                           uint64_t symbol, uint64_t width);
 
-uint64_t pdl_add_bytes(uint64_t state[4],
+uint64_t pdl_add_bytes(pdl_aligner *state,
                        uint64_t *placed, size_t placed_len,
                        uint64_t *chunks, size_t chunks_len,
                        uint64_t symbol, uint64_t width);
 
-uint64_t pdl_add_dyn_bytes(uint64_t state[4],
+uint64_t pdl_add_dyn_bytes(pdl_aligner *state,
                            uint64_t *placed, size_t placed_len,
                            uint64_t *chunks, size_t chunks_len,
                            uint64_t symbol);
 
-/* Ends an alignment, which is refused while fields are staged. It changes nothing. count: how many chunks there are, 0 where refused. */
-uint64_t pdl_align(const uint64_t state[4],
-                   const uint64_t *placed, size_t placed_len,
-                   const uint64_t *chunks, size_t chunks_len,
-                   size_t *count);
+/* Ends an alignment, which is refused while fields are staged. It changes nothing. */
+pdl_ended pdl_align(pdl_aligner *state,
+                    const uint64_t *placed, size_t placed_len,
+                    const uint64_t *chunks, size_t chunks_len);
+
+/* The same four over a table of chunk records. */
+uint64_t pdl_add_bitfield_to(pdl_aligner *state,
+                             uint64_t *placed, size_t placed_len,
+                             pdl_chunk *chunks, size_t chunks_len,
+                             uint64_t symbol, uint64_t width);
+
+uint64_t pdl_add_bytes_to(pdl_aligner *state,
+                          uint64_t *placed, size_t placed_len,
+                          pdl_chunk *chunks, size_t chunks_len,
+                          uint64_t symbol, uint64_t width);
+
+uint64_t pdl_add_dyn_bytes_to(pdl_aligner *state,
+                              uint64_t *placed, size_t placed_len,
+                              pdl_chunk *chunks, size_t chunks_len,
+                              uint64_t symbol);
+
+pdl_ended pdl_align_to(pdl_aligner *state,
+                       const uint64_t *placed, size_t placed_len,
+                       const pdl_chunk *chunks, size_t chunks_len);
 
 /* Matches a rule of the grammar at the front of s: how many bytes it takes, plus 1; 0 where it does not match, or where there is no
  * such rule. Rules have their numbers in the order in which the grammar is printed, from 1 to 59; 0 is the end of the input. */
@@ -252,6 +294,24 @@ size_t pdl_valid_prefix(const uint8_t *s, size_t s_len);
 /* Converts a text to a number, in base 16 behind 0x and otherwise in base 10: the reason why it does not convert, or 0. value: the
  * number, 0 where it does not convert. */
 uint64_t pdl_convert(const uint8_t *s, size_t s_len, uint64_t *value);
+
+/* Writes the text of the name at offset over the front of text, as far as that has room: PDL_NAME_OUTSIDE, or 0. count: how many bytes
+ * the text has, 0 where refused. Nothing else of text is touched. */
+uint64_t pdl_name_text(const uint8_t *s, size_t s_len,
+                       size_t offset, size_t len,
+                       uint8_t *text, size_t text_len,
+                       size_t *count);
+
+/* A place in a source, from 0 and in bytes. */
+typedef struct pdl_source_location {
+    size_t offset;
+    size_t line;
+    size_t column;
+} pdl_source_location;
+
+/* The place of an offset among any starts of lines: its line is the last one before the first start that is above the offset, and the
+ * first one where there is none. */
+pdl_source_location pdl_location(size_t offset, const size_t *starts, size_t starts_len);
 
 #ifdef __cplusplus
 }

@@ -8,10 +8,6 @@ use crate::words::{CHUNK_WORDS, PLACED_WORDS};
 /// The widest chunk of bits or bytes, in bits.
 pub const MAX_CHUNK_WIDTH: u64 = 64;
 
-/// Where the rows placed and the chunk rows stand in the state.
-const PLACED_ROWS: usize = 0;
-const CHUNK_ROWS: usize = 1;
-
 /// Puts fields one behind the other into chunks of whole bytes. Its tables grow as they are needed.
 ///
 /// A refused call leaves it as it was, and its refusal has the place 0.
@@ -82,20 +78,15 @@ impl Aligner {
     ///
     /// [`EndWhileStaged`](crate::RefusalKind::EndWhileStaged) while bits are staged, also a field without any.
     pub fn align(&self) -> Result<Layout, Refusal> {
-        let (number, chunk_rows) = entries::align(&self.state, &self.placed, &self.chunks);
+        let (number, chunk_rows) = entries::align(self.state, &self.placed, &self.chunks);
         Refusal::of_number(number)?;
-        Ok(Layout::new(
-            self.placed.clone(),
-            self.state[PLACED_ROWS] as usize,
-            self.chunks.clone(),
-            chunk_rows,
-        ))
+        Ok(Layout::new(self.placed.clone(), self.state.placed, self.chunks.clone(), chunk_rows))
     }
 
     /// Makes room for one row more in each table, which is all that a call can need.
     fn make_room(&mut self) {
-        lengthen(&mut self.placed, (self.state[PLACED_ROWS] as usize + 1) * PLACED_WORDS);
-        lengthen(&mut self.chunks, (self.state[CHUNK_ROWS] as usize + 1) * CHUNK_WORDS);
+        lengthen(&mut self.placed, (self.state.placed + 1) * PLACED_WORDS);
+        lengthen(&mut self.chunks, (self.state.chunks + 1) * CHUNK_WORDS);
     }
 }
 

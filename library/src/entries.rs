@@ -4,6 +4,8 @@
 //! lent and nothing else, and to end. References that are handed in are valid, have the stated lengths, and those that may be
 //! written overlap no other, because safe Rust made them.
 
+// What this package does not call, the comparisons of `host/` do.
+#[allow(dead_code)]
 #[path = "declared.rs"]
 mod declared;
 
@@ -77,8 +79,7 @@ pub(crate) fn layout(
     (number, answer)
 }
 
-/// The state of an aligner: rows placed, chunk rows, the first staged placed row, the staged width.
-pub(crate) type State = [u64; 4];
+pub(crate) use declared::Aligner as State;
 
 /// Stages a bit field: the number of the refusal, or 0.
 pub(crate) fn add_bitfield(
@@ -145,20 +146,18 @@ pub(crate) fn add_dyn_bytes(
 }
 
 /// Ends an alignment: the number of the refusal, or 0; then the count of chunks.
-pub(crate) fn align(state: &State, placed: &[u64], chunks: &[u64]) -> (u64, usize) {
-    let mut count = 0;
+pub(crate) fn align(mut state: State, placed: &[u64], chunks: &[u64]) -> (u64, usize) {
     // SAFETY: as the head of this file says.
-    let number = unsafe {
+    let ended = unsafe {
         declared::pdl_align(
-            state,
+            &mut state,
             placed.as_ptr(),
             placed.len(),
             chunks.as_ptr(),
             chunks.len(),
-            &mut count,
         )
     };
-    (number, count)
+    (ended.number, ended.chunks)
 }
 
 /// Matches the rule of a number: how much was taken, plus 1; 0 for a miss, or where there is no such rule.

@@ -11,8 +11,8 @@ use pdl_front::{
     Table, TagKind, Unconverted, MAX_CHUNK_WIDTH, MAX_SOURCE,
 };
 use sources::{
-    constants, entries, enumerators, in_one_line, text_of, without_comments, Crossing, Entry,
-    Parameter,
+    constants, entries, enumerators, fields, in_one_line, text_of, without_comments, Crossing,
+    Entry, Parameter,
 };
 
 const NUMBERS: &str = "crates/ast/src/numbers.rt";
@@ -60,6 +60,10 @@ fn c_type(kind: &str) -> &'static str {
         "u8" => "uint8_t",
         "u64" => "uint64_t",
         "usize" => "size_t",
+        "Aligner" => "pdl_aligner",
+        "Ended" => "pdl_ended",
+        "Chunk" => "pdl_chunk",
+        "SourceLocation" => "pdl_source_location",
         _ => panic!("the header knows no type {kind}"),
     }
 }
@@ -86,7 +90,7 @@ fn joined(entry: &Entry, said: fn(&Parameter) -> String) -> String {
 
 #[test]
 fn the_port_has_entries() {
-    assert_eq!(entries().len(), 9);
+    assert_eq!(entries().len(), 15);
     assert!(entries()
         .iter()
         .all(|entry| entry.name.starts_with("pdl_") && !entry.parameters.is_empty()));
@@ -110,6 +114,29 @@ fn the_prototypes_of_the_header_are_those_of_the_port() {
     let declared =
         |it: &Entry| format!("{} {}({});", c_type(&it.answer), it.name, joined(it, in_c));
     assert_eq!(found, entries().iter().map(declared).collect());
+}
+
+/// The structs that cross, and where the port has them.
+const STRUCTS: [(&str, &str); 4] = [
+    ("Aligner", "crates/meaning/src/lib.rt"),
+    ("SourceLocation", "crates/meaning/src/lib.rt"),
+    ("Ended", "crates/alignment/src/lib.rt"),
+    ("Chunk", "crates/byte_aligner/src/lib.rt"),
+];
+
+#[test]
+fn the_structs_are_those_of_the_port() {
+    let declared = text_of("library/src/declared.rs");
+    let header = without_comments(&text_of("include/pdl.h"));
+    for (name, file) in STRUCTS {
+        let wanted = fields(&text_of(file), name);
+        assert_eq!(fields(&declared, name), wanted, "{name}");
+        let said = |(field, kind): &(String, String)| format!("{} {field};", c_type(kind));
+        let members: Vec<_> = wanted.iter().map(said).collect();
+        let name = c_type(name);
+        let said = format!("typedef struct {name} {{ {} }} {name};", members.join(" "));
+        assert!(in_one_line(&header).contains(&said), "the header does not say: {said}");
+    }
 }
 
 #[test]

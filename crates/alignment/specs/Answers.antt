@@ -1,9 +1,7 @@
 -- What the aligner's functions answer, in the terms of the definitions.
 use mathlib.Core.List.{List}
 use Prim.Native.Nat.{ℕ, _+_}
-use lib.Dec.{eqb}
 use Rattle.meaning.specs.declared.Aligner.{Aligner}
-use Rattle.meaning.specs.Choice.{pick}
 use Rattle.meaning.specs.Alignment as meaning
 use Rattle.alignment.specs.declared.Called as answer
 use Rattle.alignment.specs.declared.Ended.{Ended}
@@ -19,8 +17,6 @@ judged k a ps cs = let c = meaning.call k (meaning.world a ps cs) in record { nu
 abbrev pub one-chunk-more : Aligner → Aligner
 one-chunk-more a = record { placed = a .placed; chunks = a .chunks + 1; start = a .start; width = a .width }
 
--- the end answers the chunk count, 0 when refused
+-- the end's answer
 unfoldable pub ended : Aligner → List ℕ → List ℕ → Ended
-ended a ps cs =
-    let n = meaning.end-number (meaning.world a ps cs) in
-    record { number = n; chunks = pick (eqb n 0) (a .chunks) 0 }
+ended a ps cs = record { number = meaning.end-number (meaning.world a ps cs); chunks = meaning.end-chunks (meaning.world a ps cs) }

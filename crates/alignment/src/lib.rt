@@ -16,6 +16,7 @@ pub struct Called {
 }
 
 // What the end answers: the refusal number and the chunk count, 0 when refused.
+#[repr(C)]
 pub struct Ended {
     pub number: u64,
     pub chunks: usize,

@@ -21,7 +21,8 @@ use Rattle.byte_aligner.specs.declared.Chunk.{Chunk}
 use Rattle.byte_aligner.specs.declared.Plan.{Plan}
 use Rattle.byte_aligner.specs.Records.{row, flat, Held, held, words, bits-to, chunk-to, Recorded, recorded, call-to}
 use Rattle.byte_aligner.specs.Plans.{near, with-chunks, near-state, blank, plan, plan-of, put-if, given, Plans, Ends}
-use Rattle.byte_aligner.specs.SameRecords.{flat-rows}
+use Rattle.byte_aligner.specs.Answers.{answered}
+use Rattle.byte_aligner.specs.SameRecords.{flat-rows, flattened, same-words}
 
 -- ---- one row for many: the tests of a count answer alike
 module _ (k n : ℕ) where
@@ -276,5 +277,6 @@ module _ (a : Aligner) (ps : List ℕ) (n : ℕ) (b : Aligner) (d : b ≡ near-s
 -- ---- a planned call, once its record is stored
 pub stored : (c : Call) (a : Aligner) (ps : List ℕ) (rs : List Chunk) (p : Plan) (ps′ : List ℕ) (rs′ : List Chunk) → Plans c a ps (length rs) p ps′
     → rs′ ≡ put-if (p .due) rs (p .at) (p .chunk)
-    → recorded (p .number) (p .state) ps′ rs′ ≡ call-to c (held a ps rs)
-stored c a ps rs p ps′ rs′ s e = ap (λ (l : List Chunk). recorded (p .number) (p .state) ps′ l) e ∙ s .is rs refl
+    → answered (p .number) (p .state) ps′ (flat rs′) ≡ call c (world a ps (flat rs))
+stored c a ps rs p ps′ rs′ s e =
+    ap (λ (l : List Chunk). answered (p .number) (p .state) ps′ (flat l)) e ∙ ap flattened (s .is rs refl) ∙ same-words c (held a ps rs)

@@ -1,4 +1,3 @@
-mod Words
 mod StateWalk
 mod Laws
 mod RecordWalk

@@ -46,7 +46,9 @@ use denote.Exit.{yes}
 use Rattle.meaning.specs.declared.Aligner.{Aligner}
 use Rattle.byte_aligner.specs.declared.Chunk.{Chunk}
 use Rattle.byte_aligner.specs.declared.Plan.{Plan}
-use Rattle.byte_aligner.specs.Records.{held, recorded, call-to}
+use Rattle.meaning.specs.Alignment.{world, call as meant}
+use Rattle.byte_aligner.specs.Answers.{answered}
+use Rattle.byte_aligner.specs.Records.{flat}
 use Rattle.byte_aligner.specs.Plans.{put-if, Plans}
 use Rattle.meaning.proofs.Aligner as T
 use Rattle.meaning.proofs.Aligner.Laws as T′
@@ -55,7 +57,7 @@ use Rattle.byte_aligner.proofs.Plan.Laws as S′
 use Rattle.byte_aligner.proofs.Chunk as R
 use Rattle.byte_aligner.proofs.Chunk.Laws as R′
 use Rattle.byte_aligner.proofs.Laws.{stored}
-use Rattle.byte_aligner.proofs.Words as words
+use Rattle.byte_aligner.specs.Words as words
 use Rattle.byte_aligner.proofs.store_if as store
 use Rattle.byte_aligner.proofs.store_if.Symbol.{name as #byte-aligner·store-if}
 
@@ -146,8 +148,8 @@ toClauses 𝓤 k rule κs x =
       ghost = Unit {0};
       requires = λ _. emp 𝓤;
       ensures = λ _ r e.
-          fact 𝓤 (recorded r (now (e .0)) (now (e .1 .0)) (now (e .1 .1 .0))
-          ≡ call-to (rule (words.told 3 κs k (x .1 .1 .1))) (held (now (x .0)) (now (x .1 .0)) (now (x .1 .1 .0))));
+          fact 𝓤 (answered r (now (e .0)) (now (e .1 .0)) (flat (now (e .1 .1 .0)))
+          ≡ meant (rule (words.told 3 κs k (x .1 .1 .1))) (world (now (x .0)) (now (x .1 .0)) (flat (now (x .1 .1 .0)))));
     }
 
 abbrev planClauses : {M : Type 1} (𝓤 : URA M) (k : ℕ) → words.Rule k → Clauses 𝓤 (plan k)
@@ -246,7 +248,7 @@ module _ {M : Type 1} (𝓤 : URA M) (H : Heap 𝓤) (A : Atoms 𝓤) (W : Given
 
   -- what the contract says, at these words, of the result n, the state c and the lists at exit
   abbrev Says : ℕ → Aligner → List ℕ → List Chunk → Type 0
-  Says n c ps rs = recorded n c ps rs ≡ call-to (rule t) (held h (x₁ .now) (x₂ .now))
+  Says n c ps rs = answered n c ps (flat rs) ≡ meant (rule t) (world h (x₁ .now) (flat (x₂ .now)))
 
   abbrev last : Aligner → List ℕ → List Chunk → List (Item 𝓤)
   last c ps rs =

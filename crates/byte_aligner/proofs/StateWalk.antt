@@ -48,7 +48,7 @@ use Rattle.meaning.proofs.Aligner as T
 use Rattle.meaning.proofs.Aligner.Laws as T′
 use Rattle.alignment.proofs.Called as S
 use Rattle.alignment.proofs.Called.Laws as S′
-use Rattle.byte_aligner.proofs.Words as words
+use Rattle.byte_aligner.specs.Words as words
 
 abbrev Table : Type 0
 Table = RefT (List ℕ)

@@ -3,3 +3,4 @@ pub mod Records
 pub mod Plans
 pub mod SameRecords
 pub mod Outcomes
+pub mod Words

@@ -1,4 +1,5 @@
--- The aligner over a lent table of chunk records: it judges as over their words, and stores one record for a chunk row.
+-- A table of chunk records, and the words that it stands for (`flat`): a call over records is the meaning's call over these words.
+-- What it does to the records themselves (`call-to`) is a step of the proof; `same-words` (SameRecords) shows that it is the same.
 use Prim.Native.Nat.{ℕ, _+_, _-_}
 use mathlib.Core.List.{List, [], _∷_, _++_}
 use lib.ListN.{set}
@@ -8,9 +9,7 @@ use Rattle.meaning.specs.Choice.{pick}
 use Rattle.meaning.specs.Tables.{put}
 use Rattle.meaning.specs.Rows.{placed-size, chunk-words, placed-words}
 use Rattle.meaning.specs.Alignment.{World, world, due, bits-number, bytes-number, dyn-number, end-number, Call, add-bitfield, add-bytes, add-dyn-bytes, align}
-use Rattle.alignment.specs.Answers.{ended}
 use Rattle.byte_aligner.specs.declared.Chunk.{Chunk}
-use Rattle.byte_aligner.specs.Answers.{Finished, finished}
 
 -- a record's row, and the words of records
 abbrev pub row : Chunk → List ℕ
@@ -48,7 +47,8 @@ chunk-to kind symbol width h =
     held (record { placed = a .placed; chunks = a .chunks + 1; start = a .start; width = a .width }) (h .ps)
     (set (h .rs) (a .chunks) (record { kind = kind; first = 0; count = 0; width = width; symbol = symbol }))
 
--- what a call answers and leaves; a refused one leaves all as it came
+-- ---- what a call does to the records: it judges as over their words, and stores one record for a chunk row
+-- what it answers and leaves; a refused one leaves all as it came
 pub record Recorded : Type 0 where
   pub number : ℕ
   pub left : Held
@@ -64,7 +64,3 @@ call-to (add-bitfield s n) h = settled-to (bits-number n (words h)) (bits-to s n
 call-to (add-bytes s n) h = settled-to (bytes-number n (words h)) (chunk-to 2 s n h) h
 call-to (add-dyn-bytes s) h = settled-to (dyn-number (words h)) (chunk-to 3 s 0 h) h
 call-to align h = settled-to (end-number (words h)) h h
-
--- the end over records
-abbrev pub align-on : Aligner → List ℕ → List Chunk → Finished
-align-on a ps rs = finished (ended a ps (flat rs)) a

@@ -14,8 +14,7 @@ use Rattle.meaning.specs.Rows.{chunk-size}
 use Rattle.meaning.specs.Alignment.{World, world, due, bits-number, bytes-number, dyn-number, end-number, bits-done, chunk-done, Called, settled, call, Call, add-bitfield, add-bytes, add-dyn-bytes, align}
 use Rattle.ast.specs.RowLaws.{put-fits, put-short}
 use Rattle.byte_aligner.specs.declared.Chunk.{Chunk}
-use Rattle.byte_aligner.specs.Answers.{align-at}
-use Rattle.byte_aligner.specs.Records.{row, flat, Held, held, words, bits-to, chunk-to, Recorded, settled-to, call-to, align-on}
+use Rattle.byte_aligner.specs.Records.{row, flat, Held, held, words, bits-to, chunk-to, Recorded, settled-to, call-to}
 
 pub flat-length : (rs : List Chunk) → length (flat rs) ≡ length rs * chunk-size
 unfolding flat
@@ -86,7 +85,3 @@ same-words (add-bitfield s v) h = settles (bits-number v (words h)) _ h _ (bits-
 same-words (add-bytes s v) h = settles (bytes-number v (words h)) _ h _ (chunk-same 2 s v h)
 same-words (add-dyn-bytes s) h = settles (dyn-number (words h)) _ h _ (chunk-same 3 s 0 h)
 same-words align h = settles (end-number (words h)) h h _ refl
-
--- and the end's answer
-pub same-end : (a : Aligner) (ps : List ℕ) (rs : List Chunk) → align-on a ps rs ≡ align-at a ps (flat rs)
-same-end a ps rs = refl

@@ -6,7 +6,7 @@ ghost use Prim.Native.Nat.{_<_};
 ghost use lib.ListN.{length};
 ghost use Rattle.meaning.specs.Alignment.{world, call, add-bitfield, add-bytes, add-dyn-bytes};
 ghost use Rattle.byte_aligner.specs.Answers.{answered, finished, align-at};
-ghost use Rattle.byte_aligner.specs.Records.{held, recorded, call-to, align-on};
+ghost use Rattle.byte_aligner.specs.Records.{flat};
 ghost use Rattle.byte_aligner.specs.Plans.{put-if, near-state, plan-of, Plans, Ends};
 use alignment::Called;
 use alignment::Ended;
@@ -64,6 +64,7 @@ pub fn align(a: &mut Aligner, placed: &[u64], chunks: &[u64]) -> Ended
 }
 
 // A chunk (alignment.rs, `Chunk`): kind (bits 1, bytes 2, dynamic 3), first placed row, count, width, symbol.
+#[repr(C)]
 pub struct Chunk {
     pub kind: u64,
     pub first: u64,
@@ -215,8 +216,8 @@ pub fn add_bitfield_to(
     symbol: u64,
     width: u64,
 ) -> u64
-    ensures { λ r. ⌜ recorded r (now (a .exit)) (now (placed .exit)) (now (chunks .exit))
-        ≡ call-to (add-bitfield symbol width) (held (now (a .entry)) (now (placed .entry)) (now (chunks .entry))) ⌝ }
+    ensures { λ r. ⌜ answered r (now (a .exit)) (now (placed .exit)) (flat (now (chunks .exit)))
+        ≡ call (add-bitfield symbol width) (world (now (a .entry)) (now (placed .entry)) (flat (now (chunks .entry)))) ⌝ }
 {
     let p = plan_bitfield(*a, placed, chunks.len(), symbol, width);
     store_if(chunks, p.due, p.at, p.chunk);
@@ -232,8 +233,8 @@ pub fn add_bytes_to(
     symbol: u64,
     width: u64,
 ) -> u64
-    ensures { λ r. ⌜ recorded r (now (a .exit)) (now (placed .exit)) (now (chunks .exit))
-        ≡ call-to (add-bytes symbol width) (held (now (a .entry)) (now (placed .entry)) (now (chunks .entry))) ⌝ }
+    ensures { λ r. ⌜ answered r (now (a .exit)) (now (placed .exit)) (flat (now (chunks .exit)))
+        ≡ call (add-bytes symbol width) (world (now (a .entry)) (now (placed .entry)) (flat (now (chunks .entry)))) ⌝ }
 {
     let p = plan_bytes(*a, placed, chunks.len(), symbol, width);
     store_if(chunks, p.due, p.at, p.chunk);
@@ -248,8 +249,8 @@ pub fn add_dyn_bytes_to(
     chunks: &mut [Chunk],
     symbol: u64,
 ) -> u64
-    ensures { λ r. ⌜ recorded r (now (a .exit)) (now (placed .exit)) (now (chunks .exit))
-        ≡ call-to (add-dyn-bytes symbol) (held (now (a .entry)) (now (placed .entry)) (now (chunks .entry))) ⌝ }
+    ensures { λ r. ⌜ answered r (now (a .exit)) (now (placed .exit)) (flat (now (chunks .exit)))
+        ≡ call (add-dyn-bytes symbol) (world (now (a .entry)) (now (placed .entry)) (flat (now (chunks .entry)))) ⌝ }
 {
     let p = plan_dyn_bytes(*a, placed, chunks.len(), symbol);
     store_if(chunks, p.due, p.at, p.chunk);
@@ -259,7 +260,7 @@ pub fn add_dyn_bytes_to(
 
 // The end over records. It changes nothing.
 pub fn align_to(a: &mut Aligner, placed: &[u64], chunks: &[Chunk]) -> Ended
-    ensures { λ r. ⌜ finished r (now (a .exit)) ≡ align-on (now (a .entry)) (now (placed .entry)) (now (chunks .entry)) ⌝ }
+    ensures { λ r. ⌜ finished r (now (a .exit)) ≡ align-at (now (a .entry)) (now (placed .entry)) (flat (now (chunks .entry))) ⌝ }
 {
     plan_end(*a, placed, chunks.len())
 }

@@ -8,8 +8,9 @@ use Rattle.meaning.specs.Places.{placeAt}
 use Rattle.meaning.specs.Tables.{Table}
 use Rattle.walk.specs.declared.Door.the-variants.{Write}
 use Rattle.walk.specs.declared.Walk.{Walk}
-use Rattle.walk.specs.State.{slot, lend, Wrote, At, same, Came, Knows, Put}
-use Rattle.walk.specs.Steps.{wrote-then, wrote-in, at-on, goes-then, Spare, put-asks, put-goes, stood, spare}
+use Rattle.walk.specs.State.{slot, counted, lend, Wrote, At, same, Came, Knows, Put}
+use Rattle.walk.specs.Steps.{wrote-then, wrote-in, at-on, goes-then}
+use Rattle.walk.specs.Doors.{put-asks, put-goes, stood, spare}
 use Rattle.comments.specs.Steps.{Ready, GoesComment, kind-of, words}
 
 module _ {src : List ℕ} {i l : ℕ} {n : Walk} (w : Ready src i l n) {a : Walk} (ca : Came src i n a) where
@@ -20,8 +21,8 @@ module _ {src : List ℕ} {i l : ℕ} {n : Walk} (w : Ready src i l n) {a : Walk
     moved : Wrote [] n b same same
     moved = wrote-then (ca .goes .wrote) (cb .goes .wrote)
 
-    room : Spare (i + l) b
-    room = spare (w .came) moved (omega (arith, w .some))
+    room : counted Table.comments b < i + l
+    room = spare (w .came) moved (omega (arith, w .some)) Table.comments
 
     pub row-asks : length src < 2 ^ 64 → Knows b (slot Table.comments)
     row-asks s = put-asks Table.comments (cb .goes .at) room s

@@ -10,19 +10,18 @@ use Rattle.meaning.specs.declared.Match.{Match}
 use Rattle.meaning.specs.declared.Match.the-variants.{Missed, Took}
 use Rattle.meaning.specs.Peg.{Peg, run, bytewise, hit, taken}
 use Rattle.meaning.specs.Pdl.{COMMENT, string}
-use Rattle.meaning.specs.Tables.{Item, Table, Lent}
+use Rattle.meaning.specs.Tables.{Item, Lent}
 use Rattle.meaning.specs.Walk.{comment-row}
 use Rattle.grammar.specs.Matching.{eats}
 use Rattle.grammar.specs.Stars.{hit-pos}
 use Rattle.grammar.specs.Steps.{rest-is}
 use Rattle.lexis.specs.Classes.{span, Runs}
 use Rattle.lexis.specs.Skips.{eats-comment}
-use Rattle.text.specs.PlaceLaws.{placeAt-start}
 use Rattle.walk.specs.declared.Door.{Door}
-use Rattle.walk.specs.declared.Door.the-variants.{Count, Write}
 use Rattle.walk.specs.declared.Walk.{Walk}
-use Rattle.walk.specs.State.{counted, fresh, Wrote, Near, At, Goes}
+use Rattle.walk.specs.State.{fresh, Wrote, At, Goes}
 use Rattle.walk.specs.Steps.{wrote-as, goes-none, goes-then, goes-on}
+use Rattle.walk.specs.Totals.{fresh-at}
 use Rattle.comments.specs.Lex.{lex, lexical}
 use Rattle.comments.specs.LexLaws.{lex-none, lex-on, lex-comment, lex-string, lex-run, plain-byte, string-eats}
 use Rattle.comments.specs.Steps.{Comment, GoesComment, Past, stride}
@@ -78,24 +77,8 @@ pub record Turning (src : List ℕ) (n : Walk) (a : Lent → Lent) (i : ℕ) (m 
   pub goes : Goes so-far src i n m a b
   pub left : lexical src ≡ so-far ++ onward src i
 
--- a fresh walk has come to the start
-fresh-near : (src : List ℕ) (d : Door) → Near d src 0 (fresh d .here)
-unfolding Near
-fresh-near src Count = tt
-fresh-near src Write = (sym (placeAt-start src), omega arith)
-
-fresh-at : (src : List ℕ) (d : Door) → At src 0 (fresh d)
-fresh-at src d = record { within = omega arith; sized = refl; few = none; near = fresh-near src d }
-  where
-    none : (t : Table) → counted t (fresh d) ≤ 0
-    none Table.declarations = omega arith
-    none Table.fields = omega arith
-    none Table.tags = omega arith
-    none Table.constraints = omega arith
-    none Table.comments = omega arith
-
 pub turn-start : (src : List ℕ) {n : Walk} {d : Door} (a : Lent → Lent) → n ≡ fresh d → Turning src n a 0 n a
-turn-start src {n} {d} a e = record { so-far = []; goes = goes-none a (subst (At src 0) (sym e) (fresh-at src d)); left = refl }
+turn-start src {n} {d} a e = record { so-far = []; goes = goes-none a (subst (At src 0) (sym e) (fresh-at d src 0 (omega arith))); left = refl }
 
 module _ {src : List ℕ} {n : Walk} {a : Lent → Lent} {i : ℕ} {m : Walk} {b : Lent → Lent} (w : Turning src n a i m b) where
   left-as : {ys : List Item} → onward src i ≡ ys → lexical src ≡ w .so-far ++ ys

@@ -1,20 +1,18 @@
 -- What the functions over constraints ask of their callees, and what they come to.
 use Prim.Native.Nat.{ℕ, _+_, _-_, _^_, _≤_, _<_}
 use native.Mathlib.Omega.{arith}
-use mathlib.Core.Path.{_≡_, refl, ap, ap₂, subst, sym, _∙_}
+use mathlib.Core.Path.{_≡_, ap, subst, sym, _∙_}
 use mathlib.Core.List.{List, [], _∷_, _++_}
-use mathlib.Core.Bool.{true, false}
 use lib.ListN.{length, take, drop}
-use Rattle.meaning.specs.Peg.{run, bytewise, hit, taken}
-use Rattle.meaning.specs.Pdl.{constraint}
+use Rattle.meaning.specs.Peg.{taken}
+use Rattle.meaning.specs.Pdl.{constraint-list}
 use Rattle.meaning.specs.Walk.{parse-constraint-list}
-use Rattle.grammar.specs.Drawing.{Draws}
 use Rattle.spans.specs.declared.Span.{Span}
 use Rattle.spans.specs.declared.Part.{Part}
-use Rattle.spans.specs.declared.Part.the-variants.{Here}
-use Rattle.spans.specs.Drawn.{drawConstraint}
+use Rattle.spans.specs.declared.Part.the-variants.{Absent, Here}
+use Rattle.spans.specs.Answers.{Constrained, Matched, MatchedPart}
 use Rattle.grammar.specs.Bounds.{held, took-inside}
-use Rattle.meaning.specs.Tables.{Table, size, Item, row, Lent}
+use Rattle.meaning.specs.Tables.{Table, size, row, Lent}
 use Rattle.spans.specs.declared.Constraint.{Constraint}
 use Rattle.spans.specs.declared.ConstraintMatch.{ConstraintMatch}
 use Rattle.walk.specs.declared.Number.{Number}
@@ -22,13 +20,15 @@ use Rattle.walk.specs.declared.Name.{Name}
 use Rattle.walk.specs.declared.Walk.{Walk}
 use Rattle.walk.specs.declared.Door.the-variants.{Write}
 use Rattle.walk.specs.State.{slot, counted, lend, noted, At, Goes, same, Came, Knows, Put}
-use Rattle.walk.specs.Steps.{Sound, tally, tally-is, wrote-none, wrote-then, wrote-in, wrote-as, same-counts, at-on, noted-goes, asks-own, put-wrote, put-own, stood}
-use Rattle.walk.specs.Lists.{GoesOne, GoesAll, found-some, found-in, found-at}
+use Rattle.walk.specs.Steps.{Sound, tally, tally-is, wrote-none, wrote-then, wrote-in, wrote-as, same-counts, at-on, noted-goes}
+use Rattle.walk.specs.Doors.{put-asks, put-wrote, put-goes, stood}
+use Rattle.walk.specs.Lists.{GoesOne, GoesAll, found-drawn, found-some, found-in}
+use Rattle.walk.specs.PartLists.{list-in, list-first, list-ends}
 use Rattle.walk.specs.Terms.{integerItems, operandNumber, spanName, operandName, constraintKind, constraintWords, InsideOperand}
 use Rattle.walk.specs.Insides.{InsideConstraint, constraint-inside}
 use Rattle.walk.specs.Sounds.{operand-sound, constraint-sized}
-use Rattle.constraint_rows.specs.Constraints.{constraints, rowWords, rowEnd, none-item, own-items, Begun, Placed, GoesRow, Ready}
-use Rattle.constraint_rows.specs.Listed.{GoesPart, constrained, listed, part-none, part-list, part-ends}
+use Rattle.constraint_rows.specs.Constraints.{constraint-form, rowWords, rowEnd, none-item, own-items, Placed, GoesRow, Ready}
+use Rattle.constraint_rows.specs.Listed.{constraint-rule, part-list, Begun, GoesPart}
 
 -- ---- one row: the walk comes to its start as a, and to its end as b
 module _ {src : List ℕ} {at : ℕ} {c : Constraint} {v : Number} {n : Walk} (w : Placed src at c v n) where
@@ -44,7 +44,7 @@ module _ {src : List ℕ} {at : ℕ} {c : Constraint} {v : Number} {n : Walk} (w
       same-count = same-counts (wrote-then (ca .goes .wrote) (cb .goes .wrote)) Table.constraints
 
       pub row-asks : length src < 2 ^ 64 → Knows b (slot Table.constraints)
-      row-asks s = asks-own Table.constraints (at-on row-in (omega arith) (cb .goes .at)) (omega (arith, same-count, w .spare)) s
+      row-asks s = put-asks Table.constraints (at-on row-in (omega arith) (cb .goes .at)) (omega (arith, same-count, w .spare)) s
 
       pub row-done : {r : Walk} {kind : ℕ} {id tag : Name} {ws t t' : List ℕ} → id ≡ spanName at (c .id) → tag ≡ operandName at (c .value)
           → kind ≡ constraintKind (c .value) → ws ≡ constraintWords kind (a .here) (b .here) id tag v → Put (slot Table.constraints) ws b r t t'
@@ -55,7 +55,7 @@ module _ {src : List ℕ} {at : ℕ} {c : Constraint} {v : Number} {n : Walk} (w
             wrote =
                 wrote-then (wrote-in (lend Table.constraints t) (wrote-then (ca .goes .wrote) (cb .goes .wrote)))
                 (put-wrote Table.constraints p (rowWords src at c) words long (cb .goes .at .sized));
-            came = λ hi e i k. put-own Table.constraints p (rowWords src at c) words long (at-on e i (cb .goes .at)) (omega (arith, same-count, k)) .at;
+            came = λ hi e i k. put-goes Table.constraints p (rowWords src at c) words long (at-on e i (cb .goes .at)) (omega (arith, same-count, k)) .at;
           }
         where
           long : length ws ≡ size Table.constraints
@@ -73,13 +73,13 @@ module _ {src : List ℕ} {at : ℕ} {m : ConstraintMatch} {n : Walk} (w : Ready
   c = m .constraint
 
   within : taken (m .at) ≤ length src - at
-  within = took-inside src at (w .found .within) (w .found .drawn .reads)
+  within = took-inside src at (w .found .within) (found-drawn (w .found) .reads)
 
   inside : InsideConstraint (length src - at) c
-  inside = constraint-inside at (taken (m .at)) (length src - at) c within (held (w .found .drawn) (w .found .hits) at)
+  inside = constraint-inside at (taken (m .at)) (length src - at) c within (held (found-drawn (w .found)) (w .found .hits) at)
 
   ends : rowEnd at c ≤ at + taken (m .at)
-  ends = held (w .found .drawn) (w .found .hits) at .1 .0
+  ends = held (found-drawn (w .found)) (w .found .hits) at .1 .0
 
   pub number-ready : (at ≤ length src) × InsideOperand (length src - at) (c .value)
   number-ready = (w .found .within, inside .value)
@@ -99,7 +99,7 @@ module _ {src : List ℕ} {at : ℕ} {m : ConstraintMatch} {n : Walk} (w : Ready
         }
 
     pub one-done : {r : Walk} {t t' : List ℕ} → GoesRow src at c k r (lend Table.constraints t) (lend Table.constraints t')
-        → GoesOne constraints src at m n r (lend Table.constraints t) (lend Table.constraints t')
+        → GoesOne constraint-form src at m n r (lend Table.constraints t) (lend Table.constraints t')
     one-done {r} {t} {t'} g =
         record {
           wrote = λ xs ta.
@@ -108,28 +108,28 @@ module _ {src : List ℕ} {at : ℕ} {m : ConstraintMatch} {n : Walk} (w : Ready
           came = g .came (at + taken (m .at)) ends (found-in (w .found)) (omega (arith, noting same .at .few Table.constraints, found-some (w .found)));
         }
 
--- ---- the constraints where a part says
-module _ {src : List ℕ} {at : ℕ} {n : Walk} (w : Begun src at n) where
-  pub part-empty : (g : Part) (t : List ℕ) → listed src at g ≡ false → GoesPart src at g n n (lend Table.constraints t) (lend Table.constraints t)
-  part-empty g t h =
-      record {
-        wrote = wrote-as (sym (ap (parse-constraint-list src) (part-none src at g h) ∙ none-item src)) (wrote-none n (lend Table.constraints t));
-        came = λ lo hi e i k. at-on e i (w .at-it);
-      }
+-- ---- the constraints that a part says
+module _ {src : List ℕ} {at : ℕ} {n : Walk} where
+  pub part-none : {g : Part} (a : Lent → Lent) → g ≡ Absent → Begun src at g n → GoesPart src at g n n a a
+  part-none a e w =
+      subst (λ (x : Part). GoesPart src at x n n a a) (sym e)
+      (record { wrote = wrote-as (sym (none-item src)) (wrote-none n a); came = λ lo hi h i k. at-on h i (w .came) })
 
-  pub part-ready : (k : ℕ) {m : ConstraintMatch} → at + k ≤ length src
-      → Draws constraint (take (length src - (at + k)) (drop (at + k) src)) (m .at) (λ o. drawConstraint o (m .constraint)) → hit (m .at) ≡ true
-      → Ready src (at + k) m n
-  part-ready k {m} e d h = record { came = at-on (omega arith) e (w .at-it); found = found-at m e d h }
+  module _ {p : Part} {g : Span} (w : Begun src at p n) (e : p ≡ Here g) where
+    there : Matched constraint-list (drop at src) g
+    there = subst (λ (x : Part). MatchedPart constraint-list (drop at src) x) e (w .list)
 
-  pub part-done : {g : Span} {r : Walk} {a b : Lent → Lent} → constrained src (at + g .start) ≡ true → GoesAll constraints src (at + g .start) n r a b
-      → GoesPart src at (Here g) n r a b
-  part-done {g} h k =
-      record {
-        wrote = wrote-as (ap (parse-constraint-list src) (sym (part-list src at g h))) (k .wrote (tally n) (tally-is n));
-        came = λ lo hi e i d. at-on (part-ends src at g h lo hi d) i (k .came);
-      }
+    pub part-in : at + g .start ≤ length src
+    part-in = omega (arith, list-in constraint-form constraint-rule src at there)
 
-  -- the part that the code has is another's name
-  pub part-as : {g h : Part} {r : Walk} {a b : Lent → Lent} → g ≡ h → GoesPart src at h n r a b → GoesPart src at g n r a b
-  part-as {r = r} {a = a} {b = b} e k = subst (λ (x : Part). GoesPart src at x n r a b) (sym e) k
+    pub part-ready : {m : ConstraintMatch} → Constrained (take (length src - (at + g .start)) (drop (at + g .start) src)) m
+        → Ready src (at + g .start) m n
+    part-ready {m} d = record { came = at-on (omega arith) part-in (w .came); found = list-first constraint-form constraint-rule src at there m d }
+
+    pub part-done : {r : Walk} {a b : Lent → Lent} → GoesAll constraint-form src (at + g .start) n r a b → GoesPart src at p n r a b
+    part-done {r} {a} {b} k =
+        subst (λ (x : Part). GoesPart src at x n r a b) (sym e)
+        (record {
+          wrote = wrote-as (ap (parse-constraint-list src) (sym (part-list src at there))) (k .wrote (tally n) (tally-is n));
+          came = λ lo hi h i d. at-on (list-ends constraint-form constraint-rule src at there lo hi d) i (k .came);
+        })

@@ -1,5 +1,5 @@
 -- A constraint in the words of its spans: its row, what writing it needs, and the form of a list of constraints.
-use Prim.Native.Nat.{ℕ, _+_, _-_, _^_, _≤_, _<_}
+use Prim.Native.Nat.{ℕ, _+_, _-_, _≤_, _<_}
 use native.Mathlib.Omega.{arith}
 use mathlib.Core.Path.{_≡_, refl, ap, ap₂, sym, _∙_}
 use mathlib.Core.List.{List, [], _∷_, _++_, append-nil}
@@ -15,6 +15,7 @@ use Rattle.grammar.specs.Matching.{eats}
 use Rattle.spans.specs.declared.Constraint.{Constraint}
 use Rattle.spans.specs.declared.ConstraintMatch.{ConstraintMatch}
 use Rattle.spans.specs.Drawn.{drawConstraint}
+use Rattle.spans.specs.Answers.{Constrained}
 use Rattle.walk.specs.declared.Number.{Number}
 use Rattle.walk.specs.declared.Walk.{Walk}
 use Rattle.walk.specs.Insides.{InsideConstraint}
@@ -56,12 +57,14 @@ unfolding constraint identifier alpha
 eats-constraint = refl
 
 -- ---- a list of them
-abbrev pub constraints : Form ConstraintMatch
-constraints =
+abbrev pub constraint-form : Form ConstraintMatch
+constraint-form =
     record {
       peg = constraint;
       match = λ c. c .at;
       draw = λ c t o. drawConstraint o (c .constraint);
+      Answered = Constrained;
+      drawn = λ t c h. h .drawn;
       items = λ src xs w. parse-constraint-list src w;
       some = eats-constraint;
       none = λ src xs. none-item src;
@@ -70,10 +73,6 @@ constraints =
     }
 
 -- ---- what writing asks
--- the walk has come to the text at `at`
-pub record Begun (src : List ℕ) (at : ℕ) (n : Walk) : Type 0 where
-  pub at-it : At src at n
-
 -- it has come to where the constraint stands, whose spans lie inside the text at `at`; v is its number
 pub record Placed (src : List ℕ) (at : ℕ) (c : Constraint) (v : Number) (n : Walk) : Type 0 where
   pub within : at ≤ length src
@@ -90,4 +89,4 @@ pub record GoesRow (src : List ℕ) (at : ℕ) (c : Constraint) (n r : Walk) (a 
 -- it has come to the match m of a constraint
 pub record Ready (src : List ℕ) (at : ℕ) (m : ConstraintMatch) (n : Walk) : Type 0 where
   pub came : At src at n
-  pub found : Found constraints src at m
+  pub found : Found constraint-form src at m

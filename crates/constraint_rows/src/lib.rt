@@ -2,8 +2,8 @@
 ghost use Rattle.meaning.specs.Tables.{Table};
 ghost use Rattle.walk.specs.State.{lend};
 ghost use Rattle.walk.specs.Lists.{GoesOne, GoesAll};
-ghost use Rattle.constraint_rows.specs.Constraints.{constraints, Begun, Placed, GoesRow, Ready};
-ghost use Rattle.constraint_rows.specs.Listed.{GoesPart};
+ghost use Rattle.constraint_rows.specs.Constraints.{constraint-form, Placed, GoesRow, Ready};
+ghost use Rattle.constraint_rows.specs.Listed.{Begun, GoesPart};
 use meaning::Match;
 use spans::Constraint;
 use spans::ConstraintMatch;
@@ -34,7 +34,7 @@ pub fn put_row(s: &[u8], at: usize, c: Constraint, v: Number, n: Walk, t: &mut [
 // One constraint of a list: its number is noted, its row comes to the door.
 fn put_one(s: &[u8], at: usize, m: ConstraintMatch, n: Walk, t: &mut [u64]) -> Walk
     requires { ⌜ Ready (now s) at m n ⌝ }
-    ensures { λ r. ⌜ GoesOne constraints (now (s .entry)) at m n r (lend Table.constraints (now (t .entry))) (lend Table.constraints (now (t .exit))) ⌝ }
+    ensures { λ r. ⌜ GoesOne constraint-form (now (s .entry)) at m n r (lend Table.constraints (now (t .entry))) (lend Table.constraints (now (t .exit))) ⌝ }
 {
     let c = m.constraint;
     let value = c.value;
@@ -46,21 +46,19 @@ fn put_one(s: &[u8], at: usize, m: ConstraintMatch, n: Walk, t: &mut [u64]) -> W
 // Rust: parse_constraint_list.
 pub fn put_list(s: &[u8], at: usize, first: ConstraintMatch, n: Walk, t: &mut [u64]) -> Walk
     requires { ⌜ Ready (now s) at first n ⌝ }
-    ensures { λ r. ⌜ GoesAll constraints (now (s .entry)) at n r (lend Table.constraints (now (t .entry))) (lend Table.constraints (now (t .exit))) ⌝ }
+    ensures { λ r. ⌜ GoesAll constraint-form (now (s .entry)) at n r (lend Table.constraints (now (t .entry))) (lend Table.constraints (now (t .exit))) ⌝ }
 {
     let mut i = at;
     let mut m = n;
     let mut c = first;
     loop {
         m = put_one(s, i, c, m, t);
-        let end = c.at;
-        let j = i + grammar::taken(end);
-        let comma = walk::comma(&s[j..]);
-        let more = grammar::took(comma);
-        if more {} else {
+        let item = c.at;
+        let turn = walk::turn_behind(s, i, item);
+        if turn.more {} else {
             return m;
         }
-        i = j + grammar::taken(comma);
+        i = turn.next;
         c = constraints::constraint(&s[i..]);
         let next = c.at;
         let there = grammar::took(next);
@@ -70,24 +68,15 @@ pub fn put_list(s: &[u8], at: usize, first: ConstraintMatch, n: Walk, t: &mut [u
     }
 }
 
-// The rows of the constraints that stand where a part of the text at `at` says, if it is there.
+// The rows of the constraints that a part of the text at `at` says, if it is there.
 pub fn put_part(s: &[u8], at: usize, list: Part, n: Walk, t: &mut [u64]) -> Walk
-    requires { ⌜ Begun (now s) at n ⌝ }
+    requires { ⌜ Begun (now s) at list n ⌝ }
     ensures { λ r. ⌜ GoesPart (now (s .entry)) at list n r (lend Table.constraints (now (t .entry))) (lend Table.constraints (now (t .exit))) ⌝ }
 {
     let Part::Here(g) = list else {
         return n;
     };
-    let start = g.start;
-    if s.len() - at < start {
-        return n;
-    }
-    let j = at + start;
-    let first = constraints::constraint(&s[j..]);
-    let end = first.at;
-    let there = grammar::took(end);
-    if there {} else {
-        return n;
-    }
-    put_list(s, j, first, n, t)
+    let i = at + g.start;
+    let first = constraints::constraint(&s[i..]);
+    put_list(s, i, first, n, t)
 }

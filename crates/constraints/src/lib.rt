@@ -1,9 +1,12 @@
 // Constraints: `id = tag` and `id = integer`, alone and in lists.
-ghost use Rattle.meaning.specs.Peg.{seq, alt, star};
+ghost use mathlib.Core.Path.{_≡_};
+ghost use Rattle.meaning.specs.Choice.{pick};
+ghost use Rattle.meaning.specs.Peg.{seq, alt, star, hit};
 ghost use Rattle.meaning.specs.Pdl.{text, _~_, skip, identifier, integer, constraint, constraint-list};
 ghost use Rattle.grammar.specs.Matching.{Within, Reads, Steps};
-ghost use Rattle.grammar.specs.Drawing.{Draws, Follows};
+ghost use Rattle.spans.specs.declared.Operand.the-variants.{Identifier};
 ghost use Rattle.spans.specs.Drawn.{drawOperand, drawConstraint};
+ghost use Rattle.spans.specs.Answers.{Continues, Free, Constrained, nowhere, noConstraint};
 use grammar::settle;
 use lexis::blanks::next_literal;
 use lexis::blanks::then_blanks;
@@ -15,12 +18,14 @@ use spans::Constraint;
 use spans::ConstraintMatch;
 use spans::Operand;
 use spans::OperandMatch;
+use spans::Span;
 use spans::between;
+use spans::kept_operand;
 
 // A tag's name or an integer, where m ends.
 fn then_operand(s: &[u8], m: Match) -> OperandMatch
     requires { ⌜ Within m (now s) ⌝ }
-    ensures { λ r. ⌜ Follows m (alt identifier integer) (now (s .entry)) (r .at) (λ o. drawOperand o (r .operand)) ⌝ }
+    ensures { λ r. ⌜ Continues m (alt identifier integer) (now (s .entry)) (r .at) (λ x o. drawOperand o x) Free (Identifier nowhere) (r .operand) ⌝ }
 {
     let x = then_identifier(s, m);
     if let Match::Took(_, _) = x {
@@ -33,33 +38,50 @@ fn then_operand(s: &[u8], m: Match) -> OperandMatch
     let y = then_integer(s, b);
     OperandMatch {
         at: y,
-        operand: Operand::Integer(between(b, y)),
+        operand: kept_operand(y, Operand::Integer(between(b, y))),
+    }
+}
+
+// A constraint, where its match x took; else none.
+fn kept_constraint(x: Match, c: Constraint) -> Constraint
+    ensures { λ r. ⌜ r ≡ pick (hit x) c noConstraint ⌝ }
+{
+    let there = grammar::took(x);
+    if there {
+        return c;
+    }
+    let none = Span { start: 0, len: 0 };
+    Constraint {
+        span: none,
+        id: none,
+        value: Operand::Identifier(none),
     }
 }
 
 // A constraint, where m ends.
 pub fn then_constraint(s: &[u8], m: Match) -> ConstraintMatch
     requires { ⌜ Within m (now s) ⌝ }
-    ensures { λ r. ⌜ Follows m constraint (now (s .entry)) (r .at) (λ o. drawConstraint o (r .constraint)) ⌝ }
+    ensures { λ r. ⌜ Continues m constraint (now (s .entry)) (r .at) (λ c o. drawConstraint o c) Free noConstraint (r .constraint) ⌝ }
 {
     let a = then_identifier(s, m);
     let b = then_blanks(s, next_literal(s, a, b"="));
     let v = then_operand(s, b);
     let at = v.at;
     let value = v.operand;
+    let c = Constraint {
+        span: between(m, at),
+        id: between(m, a),
+        value,
+    };
     ConstraintMatch {
         at,
-        constraint: Constraint {
-            span: between(m, at),
-            id: between(m, a),
-            value,
-        },
+        constraint: kept_constraint(at, c),
     }
 }
 
 // A constraint at the front.
 pub fn constraint(s: &[u8]) -> ConstraintMatch
-    ensures { λ r. ⌜ Draws constraint (now (s .entry)) (r .at) (λ o. drawConstraint o (r .constraint)) ⌝ }
+    ensures { λ r. ⌜ Constrained (now (s .entry)) r ⌝ }
 {
     then_constraint(s, Match::Took(0, 0))
 }

@@ -4,7 +4,6 @@ use native.Mathlib.Omega.{arith}
 use mathlib.Core.Path.{_≡_, ap, subst, sym, _∙_}
 use mathlib.Core.List.{List, _++_}
 use mathlib.Core.Bool.{true}
-use lib.ListN.{length}
 use Rattle.meaning.specs.Rules.{Rule}
 use Rattle.meaning.specs.Peg.{hit, taken}
 use Rattle.meaning.specs.Forest.{Forest, _⊕_}
@@ -16,12 +15,12 @@ use Rattle.spans.specs.Drawn.{drawPart, listAt}
 use Rattle.walk.specs.declared.Number.{Number}
 use Rattle.walk.specs.declared.Walk.{Walk}
 use Rattle.walk.specs.State.{lend, same, noted, Goes, Came}
-use Rattle.walk.specs.Steps.{Sound, wrote-then, wrote-in, wrote-as, goes-then, goes-in, noted-goes, stood}
+use Rattle.walk.specs.Steps.{Sound, wrote-then, wrote-in, wrote-as, goes-then, goes-in, noted-goes}
+use Rattle.walk.specs.Doors.{stood}
 use Rattle.walk.specs.Sounds.{part-sound}
-use Rattle.walk.specs.Terms.{partNumber, integerItems, spanName, otherName, InsidePart}
+use Rattle.walk.specs.Terms.{partNumber, integerItems, spanName, otherName}
 use Rattle.walk.specs.Insides.{part-inside, wider-part}
-use Rattle.constraint_rows.specs.Constraints.{Begun}
-use Rattle.constraint_rows.specs.Listed.{partItems, GoesPart}
+use Rattle.constraint_rows.specs.Listed.{partItems, Begun, GoesPart}
 use Rattle.declaration_rows.specs.declared.heads.Headed.{Headed}
 use Rattle.declaration_rows.specs.Kinds.{Kind, HeadOf}
 use Rattle.declaration_rows.specs.Heads.{InsideHeader, HeadAt, GoesHead}
@@ -35,7 +34,7 @@ module _ (t : List ℕ) (z : Kind) (h : Header) (d : HeadOf z t h) (e : hit (h .
   hi = o + taken (h .at)
 
   held-parts : Held o hi (drawPart Rule.identifier o (h .parent) ⊕ drawPart Rule.integer o (h .width) ⊕ drawPart Rule.string o (h .function) ⊕ list)
-  held-parts = held d e o .1 .1 .1 .1 .1 .1
+  held-parts = held (d .drawn) e o .1 .1 .1 .1 .1 .1
 
   held-width : Held o hi (drawPart Rule.integer o (h .width) ⊕ drawPart Rule.string o (h .function) ⊕ list)
   held-width = held-right o hi (drawPart Rule.identifier o (h .parent)) _ held-parts
@@ -48,7 +47,7 @@ module _ (t : List ℕ) (z : Kind) (h : Header) (d : HeadOf z t h) (e : hit (h .
 
   pub head-inside : (n : ℕ) → taken (h .at) ≤ n → InsideHeader n h
   head-inside n k =
-      let i : o + (h .id) .start + (h .id) .len ≤ hi = held d e o .1 .1 .1 .1 .0 in
+      let i : o + (h .id) .start + (h .id) .len ≤ hi = held (d .drawn) e o .1 .1 .1 .1 .0 in
       record {
         id = omega (arith, i, k);
         parent =
@@ -61,15 +60,12 @@ module _ (t : List ℕ) (z : Kind) (h : Header) (d : HeadOf z t h) (e : hit (h .
 
 -- ---- the walk comes to the head as a, and notes its width v as m
 module _ {src : List ℕ} {at : ℕ} {h : Header} {n : Walk} (w : HeadAt src at h n) where
-  pub width-ready : (at ≤ length src) × InsidePart (length src - at) (h .width)
-  width-ready = (w .came .within, w .inside .width)
-
   module _ {a : Walk} (ca : Came src at n a) {v : Number} {m : Walk} (ev : v ≡ partNumber src at (h .width)) (em : m ≡ noted (v .place) (v .reason) a) where
     noting : (f : Lent → Lent) → Goes (integerItems v) src at n m f f
     noting f = goes-then (goes-in f (ca .goes)) (noted-goes (subst Sound (sym ev) (part-sound src at (h .width))) f em (ca .goes .at))
 
-    pub list-ready : Begun src at m
-    list-ready = record { at-it = noting same .at }
+    pub list-ready : Begun src at (h .constraints) m
+    list-ready = record { came = noting same .at; list = w .stands }
 
     pub head-done : {r : Headed} {c c' : List ℕ} → GoesPart src at (h .constraints) m (r .walk) (lend Table.constraints c) (lend Table.constraints c')
         → r .start ≡ a .here → r .id ≡ spanName at (h .id) → r .other ≡ otherName at (h .parent) (h .function) → r .width ≡ v

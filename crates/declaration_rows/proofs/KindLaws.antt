@@ -3,33 +3,30 @@ use Prim.Native.Nat.{ℕ, _+_, _-_, _≤_}
 use native.Mathlib.Omega.{arith}
 use mathlib.Core.Path.{_≡_, refl, ap, ap₂, subst, sym, _∙_}
 use mathlib.Core.List.{List, [], _∷_, _++_, append-nil}
-use mathlib.Core.Bool.{Bool, true, false}
 use lib.ListN.{length, take, drop}
 use lib.Dec.{eqb, ltb}
-use Rattle.meaning.specs.Choice.{pick}
 use Rattle.meaning.specs.Rules.{Rule}
 use Rattle.meaning.specs.Peg.{run, bytewise, hit, taken}
 use Rattle.meaning.specs.Forest.{Forest, nil, tree, _⊕_, nodes}
 use Rattle.meaning.specs.Pdl.{declaration, field}
 use Rattle.meaning.specs.Places.{placeAt}
-use Rattle.meaning.specs.Tables.{Table, Item, int, row, rowsOf, count, firstOf, Lent}
+use Rattle.meaning.specs.Tables.{Table, Item, row, count, firstOf, Lent}
 use Rattle.meaning.specs.Walk.{node, parse-kind, parse-declaration, parse-toplevel, parse-enum-tag}
 use Rattle.grammar.specs.Steps.{rest-is}
 use Rattle.grammar.specs.Bounds.{took-inside}
 use Rattle.spans.specs.declared.Header.{Header}
 use Rattle.spans.specs.Drawn.{drawHeader}
 use Rattle.walk.specs.declared.Door.the-variants.{Write}
-use Rattle.walk.specs.declared.Number.{Number}
 use Rattle.walk.specs.declared.Walk.{Walk}
 use Rattle.walk.specs.declared.Walked.{Walked}
 use Rattle.walk.specs.State.{counted, lend, Wrote, Tallied}
-use Rattle.walk.specs.Steps.{count-append, wrote-then, wrote-in, wrote-as, tally, tally-is}
+use Rattle.walk.specs.Steps.{count-append, no-rows, wrote-then, wrote-in, wrote-as, tally, tally-is}
 use Rattle.walk.specs.Terms.{partNumber, integerItems, spanName, otherName, declarationWords}
 use Rattle.walk.specs.Lists.{listNodes}
 use Rattle.constraint_rows.specs.Listed.{partNodes}
 use Rattle.declaration_rows.specs.declared.heads.Headed.{Headed}
 use Rattle.declaration_rows.specs.declared.Parts.{Parts}
-use Rattle.tag_rows.specs.Tags.{tags}
+use Rattle.tag_rows.specs.Tags.{tag-form}
 use Rattle.field_rows.specs.Fields.{field-form}
 use Rattle.declaration_rows.specs.Ways.{three, four}
 use Rattle.declaration_rows.specs.Kinds.{declared, Kind, kindOf, HeadOf, Numbered, n1, n2, n3, n4, n5, n6, number-is}
@@ -58,14 +55,6 @@ one-node {k} q src xs s l kids = append-nil _ ∙ ap (λ (j : ℕ). parse-kind s
     go n6 = refl
 
 -- ---- the items of its parts: no row stands for a number, and no declaration is a part of one
-no-rows : (t : Table) (v : Number) → count t (integerItems v) ≡ 0
-unfolding rowsOf
-no-rows t v = go (eqb (v .found) 1)
-  where
-    go : (b : Bool) → count t (pick b (int (v .place) (v .reason) ∷ []) []) ≡ 0
-    go true = refl
-    go false = refl
-
 head-count : (src : List ℕ) (at : ℕ) (h : Header) (t : Table) → count t (headItems src at h) ≡ count t (headConstraints src at h)
 head-count src at h t =
     omega (arith, count-append t (integerItems (partNumber src at (h .width))) (headConstraints src at h), no-rows t (partNumber src at (h .width)))
@@ -77,7 +66,7 @@ head-sorted src at h =
 
 members-sorted : (src : List ℕ) (k i : ℕ) (xs : List Item) → Sorted parts (memberItems src k i xs)
 members-sorted src k i xs =
-    sorted-pick (eqb k 1) (sorted-each Rule.enum-tag (λ q. parse-enum-tag src q) (λ q. of-enum-tag parts refl refl refl src q) (listNodes tags src i))
+    sorted-pick (eqb k 1) (sorted-each Rule.enum-tag (λ q. parse-enum-tag src q) (λ q. of-enum-tag parts refl refl refl src q) (listNodes tag-form src i))
     (sorted-pick (ltb 4 k) none (sorted-pick (hit (run (bytewise field) (drop i src)))
     (of-fields parts refl refl refl src (listNodes field-form src i) xs) none))
 
@@ -91,13 +80,13 @@ module _ {src : List ℕ} {at kind : ℕ} {h : Header} {n : Walk} (w : Opened sr
   z = kindOf kind
 
   whole-is : Whole src at kind h
-  whole-is = whole src at h (w .ready .numbered) (w .head) (sym (w .ready .known .known .hits) ∙ w .ready .ready .hits)
+  whole-is = whole src at h (w .ready .numbered) (w .head .drawn) (sym (w .ready .known .known .hits) ∙ w .ready .ready .hits)
 
   pub within : at ≤ length src
   within = w .ready .ready .came .within
 
   pub head-ends : at + taken (h .at) ≤ length src
-  head-ends = omega (arith, within, took-inside src at within (w .head .reads))
+  head-ends = omega (arith, within, took-inside src at within (w .head .drawn .reads))
 
   pub head-ready : HeadAt src at h n
   head-ready =
@@ -106,6 +95,7 @@ module _ {src : List ℕ} {at kind : ℕ} {h : Header} {n : Walk} (w : Opened sr
         ends = head-ends;
         inside = head-inside (drop at src) z h (w .head) (whole-is .headed) at (length src - at) (omega (arith, head-ends, within));
         list = held-list (drop at src) z h (w .head) (whole-is .headed) at;
+        stands = w .head .sound (whole-is .headed);
       }
 
   -- e is where the head ends
@@ -199,7 +189,8 @@ module _ {src : List ℕ} {at kind : ℕ} {h : Header} {n : Walk} (w : Opened sr
       items-are =
           ap (λ (v : Forest). parse-toplevel src xs v) nodes-seen
           ∙ one-node (w .ready .numbered) src xs at len (drawHeader (z .keyword) at (drop at src) h ⊕ seen .forest)
-          ∙ declaration-items src xs kind at len (drop at src) (z .keyword) h (seen .members) nil (one-at at (drop at src) (h .constraints))
+          ∙ declaration-items src xs kind at len (drop at src) (z .keyword) h (seen .members) nil
+          (one-at src at (h .constraints) (w .head .sound (whole-is .headed)))
           ∙ ap₂ (λ (ys : List Item) (u : Table). declarationItems src kind at len h cs ys (count u xs) (count u ys) (count Table.constraints xs)
           (count Table.constraints cs)) (seen .items (xs ++ cs)) (seen .table)
 

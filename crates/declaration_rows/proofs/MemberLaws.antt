@@ -7,71 +7,62 @@ use mathlib.Core.Bool.{Bool, true, false}
 use lib.ListN.{length, take, drop}
 use lib.Dec.{eqb, ltb}
 use borrow.Author.Tests.{eq-eqb, ne-eqb, lt-ltb, le-ltb}
-use Rattle.meaning.specs.declared.Match.{Match}
-use Rattle.meaning.specs.declared.Match.the-variants.{Took}
 use Rattle.meaning.specs.Choice.{pick}
-use Rattle.meaning.specs.Rules.{Rule}
-use Rattle.meaning.specs.Peg.{Peg, seq, opt, run, bytewise, hit, taken}
+use Rattle.meaning.specs.Rules.{Rule, is}
+use Rattle.meaning.specs.Peg.{seq, run, bytewise, hit, taken}
 use Rattle.meaning.specs.Pdl.{text, skip, enum-tag, enum-tag-list, field, field-list}
 use Rattle.meaning.specs.Tables.{Table, Lent}
-use Rattle.grammar.specs.Matching.{Steps}
-use Rattle.grammar.specs.Steps.{reads, start, at, rest-is}
-use Rattle.grammar.specs.Drawing.{Draws}
-use Rattle.grammar.specs.Bounds.{took-inside}
+use Rattle.grammar.specs.Steps.{reads, at, rest-is}
+use Rattle.grammar.specs.Bounds.{run-inside}
 use Rattle.lexis.specs.Skips.{Skips}
 use Rattle.spans.specs.declared.TagMatch.{TagMatch}
 use Rattle.spans.specs.declared.FieldMatch.{FieldMatch}
+use Rattle.spans.specs.Answers.{Enumerated, Fielded}
 use Rattle.walk.specs.declared.Walk.{Walk}
 use Rattle.walk.specs.declared.Walked.{Walked}
 use Rattle.walk.specs.State.{counted, lend, At}
 use Rattle.walk.specs.Steps.{wrote-none, wrote-in, wrote-as, at-on}
+use Rattle.walk.specs.Listing.{last, listOf}
 use Rattle.walk.specs.Ends.{list-ends}
-use Rattle.walk.specs.Lists.{GoesAll, stop, found-at}
+use Rattle.walk.specs.Lists.{Form, GoesList, stop, found-at}
 use Rattle.tag_rows.specs.Tags as T
-use Rattle.tag_rows.specs.Tags.{tags}
+use Rattle.tag_rows.specs.Tags.{tag-form}
 use Rattle.field_rows.specs.Fields as F
 use Rattle.field_rows.specs.Fields.{field-form}
 use Rattle.declaration_rows.specs.Ways.{three}
 use Rattle.declaration_rows.specs.Braces.{listStart, list-within}
 use Rattle.declaration_rows.specs.Members.{listEnd, closing, membersOf, Tagged, GoesTags, GoesFields, Membered, GoesMembers}
 
--- ---- what stands at i ends in the source
-pub taken-in : (src : List ℕ) (i : ℕ) (g : Peg) → i ≤ length src → i + taken (run (bytewise g) (drop i src)) ≤ length src
-taken-in src i g e = omega (arith, took-inside src i e (reads g (drop i src) _ refl), e)
+-- ---- where a list ends whose first item is at i
+list-past : {A : Type 0} (z : Form A) (k : Rule) → is Rule.COMMENT k ≡ false → (src : List ℕ) (i : ℕ) → hit (run (bytewise (z .peg)) (drop i src)) ≡ true
+    → listEnd src (stop z src i) ≡ i + taken (run (bytewise (listOf k (z .peg))) (drop i src))
+list-past z k c src i h = sym (list-ends k (z .peg) c src i h (stop z src i) _ refl (reads last (drop (stop z src i) src) _ refl))
 
-pub taken-is : (src : List ℕ) (j : ℕ) {g : Peg} {m : Match} → Steps (Took 0 0) g (take (length src - j) (drop j src)) m
-    → taken m ≡ taken (run (bytewise g) (drop j src))
-taken-is src j s = ap taken (at j src (start s) .is)
+-- and the walk over it, behind a last comma or none
+module _ {A : Type 0} {z : Form A} {src : List ℕ} {i : ℕ} {n : Walk} {r : Walked} {a b : Lent → Lent} (g : GoesList z src i n r a b) where
+  pub list-in : r .end ≤ length src
+  list-in = omega (arith, g .end, g .all .came .within)
+
+  list-came : {j : ℕ} → j ≡ listEnd src (r .end) → At src j (r .walk)
+  list-came l = at-on (omega (arith, l, g .end)) (omega (arith, l, run-inside src (r .end) last list-in)) (g .all .came)
 
 -- ---- tags
 module _ {src : List ℕ} {i : ℕ} {n : Walk} (w : Tagged src i n) where
-  pub tags-ready : {m : TagMatch} → Draws (tags .peg) (take (length src - i) (drop i src)) (m .at) (tags .draw m (take (length src - i) (drop i src)))
-      → T.Ready tags src i m n
-  tags-ready {m} d = record { came = w .came; found = found-at m (w .came .within) d (ap hit (at i src (d .reads) .is) ∙ w .hits) }
+  pub tags-ready : {m : TagMatch} → Enumerated enum-tag (take (length src - i) (drop i src)) m → T.Ready tag-form src i m n
+  tags-ready {m} d = record { came = w .came; found = found-at m (w .came .within) d (ap hit (at i src (d .drawn .reads) .is) ∙ w .hits) }
 
-  tags-past : listEnd src (stop tags src i) ≡ i + taken (run (bytewise enum-tag-list) (drop i src))
+  tags-past : listEnd src (stop tag-form src i) ≡ i + taken (run (bytewise enum-tag-list) (drop i src))
   unfolding enum-tag-list
-  tags-past =
-      sym (list-ends Rule.enum-tag-list enum-tag refl src i (w .hits) (stop tags src i) _ refl
-      (reads (seq skip (opt (text ","))) (drop (stop tags src i) src) _ refl))
+  tags-past = list-past tag-form Rule.enum-tag-list refl src i (w .hits)
 
-  module _ {r : Walked} {a b : Lent → Lent} (g : GoesAll tags src i n (r .walk) a b) (e : r .end ≡ stop tags src i) where
-    pub tags-in : r .end ≤ length src
-    tags-in = omega (arith, e, g .came .within)
-
-    pub tags-done : {j : ℕ} → j ≡ listEnd src (r .end) → GoesTags src i n (record { walk = r .walk; end = j }) a b
-    tags-done {j} l =
-        record {
-          wrote = g .wrote;
-          came = at-on (omega (arith, l, e)) (omega (arith, l, taken-in src (r .end) (seq skip (opt (text ","))) tags-in)) (g .came);
-          ends = l ∙ ap (listEnd src) e ∙ tags-past;
-        }
+  pub tags-done : {r : Walked} {a b : Lent → Lent} {j : ℕ} → GoesList tag-form src i n r a b → j ≡ listEnd src (r .end)
+      → GoesTags src i n (record { walk = r .walk; end = j }) a b
+  tags-done g l = record { wrote = g .all .wrote; came = list-came g l; ends = l ∙ ap (listEnd src) (g .end) ∙ tags-past }
 
 -- ---- fields, if one matches
-module _ {src : List ℕ} {i : ℕ} {n : Walk} (w : At src i n) (m : FieldMatch)
-    (d : Draws (field-form .peg) (take (length src - i) (drop i src)) (m .at) (field-form .draw m (take (length src - i) (drop i src)))) where
+module _ {src : List ℕ} {i : ℕ} {n : Walk} (w : At src i n) (m : FieldMatch) (d : Fielded (take (length src - i) (drop i src)) m) where
   hit-is : hit (m .at) ≡ hit (run (bytewise field) (drop i src))
-  hit-is = ap hit (at i src (d .reads) .is)
+  hit-is = ap hit (at i src (d .drawn .reads) .is)
 
   pub none-done : (a : Lent → Lent) → hit (m .at) ≡ false → GoesFields src i n (record { walk = n; end = i }) a a
   none-done a h =
@@ -91,21 +82,16 @@ module _ {src : List ℕ} {i : ℕ} {n : Walk} (w : At src i n) (m : FieldMatch)
 
     fields-past : listEnd src (stop field-form src i) ≡ i + taken (run (bytewise field-list) (drop i src))
     unfolding field-list
-    fields-past =
-        sym (list-ends Rule.field-list field refl src i hits (stop field-form src i) _ refl
-        (reads (seq skip (opt (text ","))) (drop (stop field-form src i) src) _ refl))
+    fields-past = list-past field-form Rule.field-list refl src i hits
 
-    module _ {r : Walked} {a b : Lent → Lent} (g : GoesAll field-form src i n (r .walk) a b) (e : r .end ≡ stop field-form src i) where
-      pub fields-in : r .end ≤ length src
-      fields-in = omega (arith, e, g .came .within)
-
-      pub fields-done : {j : ℕ} → j ≡ listEnd src (r .end) → GoesFields src i n (record { walk = r .walk; end = j }) a b
-      fields-done {j} l =
-          record {
-            wrote = λ xs t. wrote-as (rw hits refl) (g .wrote xs t);
-            came = at-on (omega (arith, l, e)) (omega (arith, l, taken-in src (r .end) (seq skip (opt (text ","))) fields-in)) (g .came);
-            ends = l ∙ ap (listEnd src) e ∙ fields-past ∙ rw hits refl;
-          }
+    pub fields-done : {r : Walked} {a b : Lent → Lent} {j : ℕ} → GoesList field-form src i n r a b → j ≡ listEnd src (r .end)
+        → GoesFields src i n (record { walk = r .walk; end = j }) a b
+    fields-done g l =
+        record {
+          wrote = λ xs t. wrote-as (rw hits refl) (g .all .wrote xs t);
+          came = list-came g l;
+          ends = l ∙ ap (listEnd src) (g .end) ∙ fields-past ∙ rw hits refl;
+        }
 
 -- ---- the members of a kind, behind a head that ends at e
 module _ {src : List ℕ} {e k : ℕ} {n : Walk} (w : Membered src e k n) where
@@ -136,7 +122,7 @@ module _ {src : List ℕ} {e k : ℕ} {n : Walk} (w : Membered src e k n) where
 
     module _ {r : Walked} {j : ℕ} (ej : j ≡ closing src (r .end)) where
       closed-came : At src (r .end) (r .walk) → At src j (r .walk)
-      closed-came c = at-on (omega (arith, ej)) (omega (arith, ej, taken-in src (r .end) (seq skip (text "}")) (c .within))) c
+      closed-came c = at-on (omega (arith, ej)) (omega (arith, ej, run-inside src (r .end) (seq skip (text "}")) (c .within))) c
 
       -- those of an enum are tags
       pub tags-closed : (f c : List ℕ) {t t' : List ℕ} → k ≡ 1 → GoesTags src (e + m) n r (lend Table.tags t) (lend Table.tags t')

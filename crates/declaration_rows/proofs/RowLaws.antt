@@ -8,7 +8,8 @@ use Rattle.meaning.specs.Tables.{Table, firstOf}
 use Rattle.walk.specs.declared.Door.the-variants.{Write}
 use Rattle.walk.specs.declared.Walk.{Walk}
 use Rattle.walk.specs.State.{slot, counted, lend, Came, Knows, Put}
-use Rattle.walk.specs.Steps.{asks-own, put-own, goes-then, goes-in, stood, same-counts}
+use Rattle.walk.specs.Steps.{goes-then, goes-in, same-counts}
+use Rattle.walk.specs.Doors.{put-asks, put-goes, stood}
 use Rattle.walk.specs.Terms.{declarationWords}
 use Rattle.walk.specs.Sounds.{declaration-sized}
 use Rattle.declaration_rows.specs.declared.Parts.{Parts}
@@ -20,7 +21,7 @@ module _ {src : List ℕ} {k : ℕ} {n : Walk} {x : Parts} (w : Rowed src k n x)
   spare = omega (arith, same-counts (c .goes .wrote) Table.declarations, w .spare)
 
   pub row-asks : length src < 2 ^ 64 → Knows m (slot Table.declarations)
-  row-asks s = asks-own Table.declarations (c .goes .at) spare s
+  row-asks s = put-asks Table.declarations (c .goes .at) spare s
 
   -- a and b are the members behind all parts and behind the head, e those before; f and g the constraints before and behind the head
   pub row-done : {r : Walk} {ws t t' : List ℕ} {a b e f g first list : ℕ} → a ≡ membersOf k (x .walk) → b ≡ membersOf k (x .head .walk) → e ≡ membersOf k n
@@ -32,7 +33,7 @@ module _ {src : List ℕ} {k : ℕ} {n : Walk} {x : Parts} (w : Rowed src k n x)
       record {
         goes = λ us h.
             goes-then (goes-in (lend Table.declarations t) (c .goes))
-            (put-own Table.declarations p us (λ q. words (sym (c .goes .wrote .door) ∙ q) ∙ h (sym (c .goes .wrote .door) ∙ q))
+            (put-goes Table.declarations p us (λ q. words (sym (c .goes .wrote .door) ∙ q) ∙ h (sym (c .goes .wrote .door) ∙ q))
             (ap length ew ∙ declaration-sized k (x .head .start) (m .here) (x .head .id) (x .head .other) (x .head .width) first (a - b) list (g - f))
             (c .goes .at) spare);
       }

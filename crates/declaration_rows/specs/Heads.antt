@@ -10,6 +10,7 @@ use Rattle.meaning.specs.Tables.{Item, Lent}
 use Rattle.grammar.specs.Bounds.{Held}
 use Rattle.spans.specs.declared.Header.{Header}
 use Rattle.spans.specs.Drawn.{listAt}
+use Rattle.spans.specs.Answers.{MatchedPart}
 use Rattle.walk.specs.declared.Door.the-variants.{Write}
 use Rattle.walk.specs.declared.Walk.{Walk}
 use Rattle.walk.specs.State.{Wrote, At}
@@ -24,12 +25,13 @@ pub record InsideHeader (n : ℕ) (h : Header) : Type 0 where
   pub width : InsidePart n (h .width)
   pub function : InsidePart n (h .function)
 
--- the walk has come to a head, whose constraints lie inside it
+-- the walk has come to a head, whose constraints are matched where it says, and lie inside it
 pub record HeadAt (src : List ℕ) (at : ℕ) (h : Header) (n : Walk) : Type 0 where
   pub came : At src at n
   pub ends : at + taken (h .at) ≤ length src
   pub inside : InsideHeader (length src - at) h
   pub list : Held at (at + taken (h .at)) (listAt constraint-list at (drop at src) (h .constraints))
+  pub stands : MatchedPart constraint-list (drop at src) (h .constraints)
 
 -- what the walk meets in a head: its width, and its constraints
 abbrev pub headConstraints : List ℕ → ℕ → Header → List Item

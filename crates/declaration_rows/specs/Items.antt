@@ -18,7 +18,7 @@ use Rattle.spans.specs.declared.Part.the-variants.{Absent, Here}
 use Rattle.spans.specs.declared.Header.{Header}
 use Rattle.spans.specs.Drawn.{drawPart, listAt, drawHeader}
 use Rattle.walk.specs.Terms.{numberAt, partNumber, integerItems, spanName, nameWords, numberWords, partName, otherName, declarationWords}
-use Rattle.declaration_rows.specs.Parts.{before, NotFirst, part-absent, not-first, part-here, part-behind}
+use Rattle.spans.specs.Optionals.{before, NotFirst, part-absent, not-first, part-here, part-behind}
 
 -- a node of one rule, or none
 pub data One (r : Rule) : Forest → Type 0 where

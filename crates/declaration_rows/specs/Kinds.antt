@@ -10,9 +10,8 @@ use Rattle.meaning.specs.Rules.{Rule}
 use Rattle.meaning.specs.Peg.{Peg}
 use Rattle.meaning.specs.Pdl.{enum-declaration, packet-declaration, struct-declaration, group-declaration, checksum-declaration, custom-field-declaration, test-declaration}
 use Rattle.meaning.specs.Walk.{kindIn, kinds}
-use Rattle.grammar.specs.Drawing.{Draws}
 use Rattle.spans.specs.declared.Header.{Header}
-use Rattle.spans.specs.Drawn.{drawHeader}
+use Rattle.spans.specs.Answers.{Headed}
 use Rattle.declarations.specs.Headers.{enum-head, packet-head, struct-head, group-head, checksum-head, custom-head}
 
 -- the rule of each kind (01, 'Rows'); any other number is a test
@@ -46,7 +45,7 @@ kindOf k =
 
 -- r is the head of a declaration of the kind z
 abbrev pub HeadOf : Kind → List ℕ → Header → Type 0
-HeadOf z t r = Draws (z .head) t (r .at) (λ o. drawHeader (z .keyword) o t r)
+HeadOf z t r = Headed (z .keyword) (z .head) t r
 
 -- ---- one law for each answer of `head_of`
 pub head-is : (k j : ℕ) (t : List ℕ) (r : Header) → k ≡ j → HeadOf (kindOf j) t r → HeadOf (kindOf k) t r

@@ -4,7 +4,6 @@ pub mod Keywords
 pub mod Braces
 pub mod Members
 pub mod Wholes
-pub mod Parts
 pub mod Items
 pub mod Sorts
 pub mod Heads
@@ -13,3 +12,4 @@ pub mod Views
 pub mod Lists
 pub mod NextLaws
 pub mod ListLaws
+pub mod Settled

@@ -14,7 +14,7 @@ use Rattle.walk.specs.declared.Walk.{Walk}
 use Rattle.walk.specs.declared.Walked.{Walked}
 use Rattle.walk.specs.State.{counted, At}
 use Rattle.walk.specs.Lists.{listNodes}
-use Rattle.tag_rows.specs.Tags.{tags}
+use Rattle.tag_rows.specs.Tags.{tag-form}
 use Rattle.field_rows.specs.Fields.{field-form}
 use Rattle.declaration_rows.specs.Ways.{GoesTo}
 use Rattle.declaration_rows.specs.Braces.{listStart}
@@ -28,7 +28,7 @@ closing src j = j + taken (run (bytewise (seq skip (text "}"))) (drop j src))
 
 -- ---- tags at i: the items before them are xs
 abbrev pub tagItems : List ℕ → ℕ → List Item → List Item
-tagItems src i xs = tags .items src xs (listNodes tags src i)
+tagItems src i xs = tag-form .items src xs (listNodes tag-form src i)
 
 abbrev pub tagEnd : List ℕ → ℕ → ℕ
 tagEnd src i = i + taken (run (bytewise enum-tag-list) (drop i src))

@@ -18,7 +18,7 @@ use Rattle.spans.specs.declared.Header.{Header}
 use Rattle.spans.specs.Drawn.{drawHeader}
 use Rattle.walk.specs.Listing.{list-hit}
 use Rattle.declarations.specs.Headers.{enum-head, packet-head, struct-head, group-head, checksum-head, custom-head}
-use Rattle.declaration_rows.specs.Kinds.{declared, kindOf, HeadOf, Numbered, n1, n2, n3, n4, n5, n6}
+use Rattle.declaration_rows.specs.Kinds.{declared, kindOf, Numbered, n1, n2, n3, n4, n5, n6}
 use Rattle.declaration_rows.specs.Braces.{listStart, head-hits, list-hits, braced-nodes, braced-ends}
 use Rattle.declaration_rows.specs.Members.{memberNodes, wholeEnd}
 
@@ -79,7 +79,8 @@ module _ (src : List ℕ) (at : ℕ) (h : Header) where
   refill : (r kw : Rule) {n : ℕ} {v w : Forest} → v ≡ w → tree r at n (drawHeader kw at t h ⊕ v) nil ≡ tree r at n (drawHeader kw at t h ⊕ w) nil
   refill r kw {n} e = ap (λ (v : Forest). tree r at n (drawHeader kw at t h ⊕ v) nil) e
 
-  pub whole : {k : ℕ} → Numbered k → HeadOf (kindOf k) t h → hit (run (bytewise (declared k)) t) ≡ true → Whole src at k h
+  pub whole : {k : ℕ} → Numbered k → Draws (kindOf k .head) t (h .at) (λ o. drawHeader (kindOf k .keyword) o t h)
+      → hit (run (bytewise (declared k)) t) ≡ true → Whole src at k h
   unfolding declared kindOf enum-declaration packet-declaration struct-declaration group-declaration checksum-declaration custom-field-declaration enum-head
       packet-head struct-head group-head checksum-head custom-head run
   whole n1 d e =

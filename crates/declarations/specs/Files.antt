@@ -1,7 +1,7 @@
 -- The file, and the place of 3 (01) by bytes.
 use Prim.Native.Nat.{ℕ}
 use native.Mathlib.Omega.{arith}
-use mathlib.Core.Path.{_≡_, refl, ap, sym, _∙_}
+use mathlib.Core.Path.{_≡_, refl, ap, ap₂, sym, _∙_}
 use mathlib.Core.List.{List, [], _∷_}
 use mathlib.Core.Bool.{true}
 use lib.ListN.{length}
@@ -14,6 +14,7 @@ use Rattle.meaning.specs.Forest.{outcome, eval}
 use Rattle.meaning.specs.Pdl.{SOI, EOI, skip, declaration, file, file-start, file-line, file-head, rules}
 use Rattle.meaning.specs.Reading.{unmatched}
 use Rattle.grammar.specs.Matching.{Reads, eats}
+use Rattle.grammar.specs.Settled.{reads-settled}
 use Rattle.grammar.specs.Agree.{same}
 use Rattle.grammar.specs.Steps.{reads}
 use Rattle.grammar.specs.Bytewise.{file-start-joined, file-line-joined, file-head-joined}
@@ -26,6 +27,10 @@ placed t = pick (hit (run (bytewise file-line) t)) (taken (run (bytewise file-he
 pub record Files (t : List ℕ) (r : FileMatch) : Type 0 where
   pub reads : Reads file t (r .at)
   pub place : r .place ≡ placed t
+
+-- no two answers satisfy it
+pub files-settled : {t : List ℕ} {r s : FileMatch} → Files t r → Files t s → r ≡ s
+files-settled x y = ap₂ (λ (m : Match) (p : ℕ). record { at = m; place = p }) (reads-settled (x .reads) (y .reads)) (x .place ∙ sym (y .place))
 
 -- the start of input takes nothing
 pub begun : {t : List ℕ} → Reads SOI t (Took 0 0)

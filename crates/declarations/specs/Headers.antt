@@ -6,10 +6,11 @@ use Rattle.meaning.specs.declared.Match.the-variants.{Took}
 use Rattle.meaning.specs.Rules.{Rule}
 use Rattle.meaning.specs.Peg.{Peg, opt}
 use Rattle.meaning.specs.Pdl.{text, _~_, identifier, integer, string, ENUM, PACKET, STRUCT, GROUP, CHECKSUM, CUSTOM-FIELD, constraint-list}
-use Rattle.grammar.specs.Drawing.{Draws, Follows}
+use Rattle.grammar.specs.Drawing.{Follows}
 use Rattle.spans.specs.declared.Header.{Header}
 use Rattle.spans.specs.Spans.{spanOf}
-use Rattle.spans.specs.Drawn.{leafAt, drawHeader}
+use Rattle.spans.specs.Drawn.{leafAt}
+use Rattle.spans.specs.Answers.{Headed}
 
 unfoldable pub enum-head : Peg
 enum-head = ENUM ~ identifier ~ text ":" ~ integer ~ text "{"
@@ -36,4 +37,4 @@ custom-head = CUSTOM-FIELD ~ identifier ~ opt (text ":" ~ integer) ~ string
 -- r is the head that starts with the keyword's match k, whichever keyword that is
 pub record Heads (k : Match) (t : List ℕ) (r : Header) : Type 0 where
   pub heads : (g : Peg) (j : Rule) → Follows (Took 0 0) g t k (λ o. leafAt j o (spanOf (Took 0 0) k))
-      → Draws (parent-head g) t (r .at) (λ o. drawHeader j o t r)
+      → Headed j (parent-head g) t r

@@ -1,8 +1,9 @@
 // Declarations: the seven kinds, and the choice between them.
+ghost use mathlib.Core.Path.{_≡_};
+ghost use lib.ListN.{getD};
 ghost use Rattle.meaning.specs.Peg.{seq, opt};
 ghost use Rattle.meaning.specs.Pdl.{skip, field-list, enum-declaration, packet-declaration, struct-declaration, group-declaration, checksum-declaration, custom-field-declaration, declaration};
 ghost use Rattle.grammar.specs.Matching.{Within, Reads, Steps};
-ghost use Rattle.declarations.specs.Kinds.{OrKind};
 use crate::headers::checksum_head;
 use crate::headers::custom_field_head;
 use crate::headers::enum_head;
@@ -15,6 +16,7 @@ use grammar::joined;
 use grammar::settle;
 use lexis::blanks::next_literal;
 use lexis::blanks::then_blanks;
+use lexis::texts::literal;
 use meaning::Match;
 use tags::then_enum_tag_list;
 
@@ -83,28 +85,36 @@ pub fn custom_field_declaration(s: &[u8]) -> Match
     h.at
 }
 
-// The choice so far, d, or, where it missed, x of the next kind with the mark of d.
-fn or_kind(s: &[u8], d: Match, x: Match) -> Match
-    requires { ⌜ Within x (now s) ⌝ }
-    ensures { λ r. ⌜ OrKind d x (now (s .entry)) r ⌝ }
+// The first byte, or 0 where there is none.
+fn front(s: &[u8]) -> u8
+    ensures { λ r. ⌜ r ≡ getD (now (s .entry)) 0 0 ⌝ }
 {
-    match d {
-        Match::Took(n, f) => Match::Took(n, f),
-        Match::Missed(f) => joined(s, 0, f, x),
+    if s.len() == 0 {
+        return 0;
     }
+    s[0]
 }
 
-// A declaration. The kinds that do not stand here miss at their keyword.
+// A declaration, by its first bytes. A kind that cannot stand here would miss at once; the one that can is tried farther, so
+// that its mark is the choice's.
 pub fn declaration(s: &[u8]) -> Match
     ensures { λ r. ⌜ Reads declaration (now (s .entry)) r ⌝ }
 {
-    let a = enum_declaration(s);
-    let b = or_kind(s, a, packet_declaration(s));
-    let c = or_kind(s, b, struct_declaration(s));
-    let d = or_kind(s, c, group_declaration(s));
-    let e = or_kind(s, d, checksum_declaration(s));
-    let f = or_kind(s, e, custom_field_declaration(s));
-    or_kind(s, f, test_declaration(s))
+    let byte = front(s);
+    match byte {
+        b'e' => return enum_declaration(s),
+        b'p' => return packet_declaration(s),
+        b's' => return struct_declaration(s),
+        b'g' => return group_declaration(s),
+        b't' => return test_declaration(s),
+        b'c' => {}
+        _ => return Match::Missed(1),
+    }
+    let custom = literal(s, b"cu");
+    if let Match::Took(_, _) = custom {
+        return custom_field_declaration(s);
+    }
+    checksum_declaration(s)
 }
 
 // A declaration, where m ends.

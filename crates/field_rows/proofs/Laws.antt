@@ -4,40 +4,40 @@ use native.Mathlib.Omega.{arith}
 use mathlib.Core.Path.{_≡_, refl, ap, ap₂, subst, sym, _∙_}
 use mathlib.Core.List.{List, [], _∷_, _++_, append-assoc, append-nil}
 use mathlib.Core.Bool.{Bool, true, false}
-use lib.ListN.{length, getD, drop}
+use lib.ListN.{length, drop}
 use lib.Dec.{eqb}
 use Rattle.meaning.specs.Choice.{pick}
 use Rattle.meaning.specs.Rules.{Rule, is}
-use Rattle.meaning.specs.Peg.{hit, taken}
-use Rattle.meaning.specs.Forest.{Forest, nil, tree, _⊕_}
+use Rattle.meaning.specs.Peg.{taken}
+use Rattle.meaning.specs.Forest.{Forest, nil, tree}
 use Rattle.meaning.specs.Pdl.{constraint-list}
-use Rattle.meaning.specs.Places.{placeAt}
 use Rattle.meaning.specs.Convert.{convert, reasonOf}
 use Rattle.meaning.specs.Tables.{Table, size, Item, int, row, rowsOf, count, firstOf, Lent}
-use Rattle.meaning.specs.Walk.{Part, node, number, value-of, textOf, each, constraint-number, constraint-row, parse-constraint-list, parse-field, parse-field-list}
-use Rattle.grammar.specs.Bounds.{Held, wider, held, held-left, held-right, took-inside}
+use Rattle.meaning.specs.Walk.{node, number, value-of, textOf, each, constraint-number, constraint-row, parse-constraint-list, parse-field-list}
+use Rattle.grammar.specs.Bounds.{Held, wider}
 use Rattle.spans.specs.declared.Constraint.{Constraint}
 use Rattle.spans.specs.declared.Condition.{Condition}
 use Rattle.spans.specs.declared.Condition.the-variants.{Always, If}
 use Rattle.spans.specs.declared.FieldMatch.{FieldMatch}
 use Rattle.spans.specs.declared.Part.{Part as SpanPart}
-use Rattle.spans.specs.Drawn.{listAt, drawConstraint, drawCondition, drawDesc, drawField}
+use Rattle.spans.specs.Drawn.{drawConstraint, drawCondition, drawDesc, drawField}
+use Rattle.spans.specs.Answers.{MatchedPart, descList}
 use Rattle.walk.specs.declared.Described.{Described}
 use Rattle.walk.specs.declared.Number.{Number}
 use Rattle.walk.specs.declared.Walk.{Walk}
 use Rattle.walk.specs.declared.Door.the-variants.{Write}
-use Rattle.walk.specs.State.{slot, counted, lend, noted, Wrote, At, Goes, same, Came, Knows, Put}
-use Rattle.walk.specs.Steps.{Sound, rows-append, count-append, wrote-none, wrote-then, wrote-in, wrote-as, at-on, put-wrote, goes-none, goes-then, goes-in, goes-as, noted-goes, asks-own, put-own, stood, same-counts}
+use Rattle.walk.specs.State.{slot, counted, lend, Wrote, At, Goes, same, Came, Knows, Put}
+use Rattle.walk.specs.Steps.{Sound, count-append, no-rows, wrote-none, wrote-then, wrote-in, wrote-as, at-on, goes-then, noted-goes, same-counts}
+use Rattle.walk.specs.Doors.{put-asks, put-wrote, put-goes, stood}
 use Rattle.walk.specs.Sounds.{field-sized}
 use Rattle.walk.specs.Terms.{integerItems, fieldWords}
-use Rattle.walk.specs.Insides.{InsideConstraint, constraint-inside}
-use Rattle.walk.specs.Lists.{GoesOne, endOf, found-some, found-in}
-use Rattle.constraint_rows.specs.Constraints.{rowWords, rowEnd, Placed, GoesRow, Begun}
-use Rattle.constraint_rows.specs.Listed.{partNodes, partItems, GoesPart}
-use Rattle.field_rows.specs.DescTerms.{describedAs, groupOf, InsideDesc, Numbers, numbered, descItems, rowOf}
+use Rattle.walk.specs.Insides.{constraint-inside}
+use Rattle.walk.specs.Lists.{GoesOne, found-some, found-in}
+use Rattle.constraint_rows.specs.Constraints.{Placed, GoesRow}
+use Rattle.constraint_rows.specs.Listed.{partNodes, Begun, GoesPart}
+use Rattle.field_rows.specs.DescTerms.{describedAs, InsideDesc, Numbers, numbered, descItems}
 use Rattle.field_rows.specs.DescHeld.{desc-inside, group-held}
-use Rattle.field_rows.specs.Counts.{shape}
-use Rattle.field_rows.specs.Halves.{Halves, halves}
+use Rattle.field_rows.specs.Halves.{Halves, desc-hit, halves}
 use Rattle.field_rows.specs.Items.{condNumber, condRows, condWord, InsideCondition, condition-sound, fieldSays, fieldGroup, fieldCount, fieldRow, fieldItems, field-items}
 use Rattle.field_rows.specs.Fields.{field-form, own-items, by, notedDesc, Ready, At-condition, Past-condition, Conditioned, GoesCondition}
 
@@ -79,20 +79,12 @@ no-condition-fields src o Always = refl
 no-condition-fields src o (If c) = refl
 
 -- numbers are no rows
-no-number : (t : Table) (x : Number) → count t (integerItems x) ≡ 0
-unfolding rowsOf
-no-number t x = go (eqb (x .found) 1)
-  where
-    go : (b : Bool) → count t (pick b (int (x .place) (x .reason) ∷ []) []) ≡ 0
-    go true = refl
-    go false = refl
-
 no-desc : (t : Table) (d : Described) → count t (descItems d) ≡ 0
 no-desc t d = go (eqb (d .kind) 8)
   where
     go : (b : Bool) → count t (pick b (integerItems (d .nb) ++ integerItems (d .na)) (integerItems (d .na) ++ integerItems (d .nb))) ≡ 0
-    go true = count-append t (integerItems (d .nb)) (integerItems (d .na)) ∙ ap₂ _+_ (no-number t (d .nb)) (no-number t (d .na))
-    go false = count-append t (integerItems (d .na)) (integerItems (d .nb)) ∙ ap₂ _+_ (no-number t (d .na)) (no-number t (d .nb))
+    go true = count-append t (integerItems (d .nb)) (integerItems (d .na)) ∙ ap₂ _+_ (no-rows t (d .nb)) (no-rows t (d .na))
+    go false = count-append t (integerItems (d .na)) (integerItems (d .nb)) ∙ ap₂ _+_ (no-rows t (d .na)) (no-rows t (d .nb))
 
 -- ---- the numbers of a description, in the walk's order
 desc-goes : {d : Described} {src : List ℕ} {k : ℕ} {n m : Walk} (a : Lent → Lent) → Numbers d → m ≡ notedDesc d n → At src k n
@@ -114,9 +106,9 @@ module _ {src : List ℕ} {at : ℕ} {f : FieldMatch} {n : Walk} (w : Ready src 
   end = at + taken (f .at)
 
   two : Halves at (taken (f .at)) (drawDesc at (drop at src) (taken (f .desc .at)) (f .desc .desc)) (drawCondition at (f .cond))
-  two = halves f (w .found .drawn) (w .found .hits) at
+  two = halves (w .found .answered) (w .found .hits) at
 
-  pub end-in : end ≤ length src
+  end-in : end ≤ length src
   end-in = found-in (w .found)
 
   -- where its parts stand
@@ -155,7 +147,16 @@ module _ {src : List ℕ} {at : ℕ} {f : FieldMatch} {n : Walk} (w : Ready src 
       starting : (b : Lent → Lent) → Wrote ints n a b b
       starting b = wrote-as (append-nil ints) (wrote-in b (wrote-then (noting same .wrote) (ca .goes .wrote)))
 
-      module _ {g : Walk} {c c' : List ℕ} (wg : GoesPart src at (groupOf (f .desc .desc)) a g (lend Table.constraints c) (lend Table.constraints c')) where
+      -- its group's constraints
+      pub group-ready : {g : SpanPart} → g ≡ descList (f .desc .desc) → Begun src at g a
+      group-ready e =
+          record {
+            came = ca .goes .at;
+            list = subst (λ (x : SpanPart). MatchedPart constraint-list (drop at src) x) (sym e)
+                (w .found .answered .described .sound (desc-hit (w .found .answered) (w .found .hits)));
+          }
+
+      module _ {g : Walk} {c c' : List ℕ} (wg : GoesPart src at (descList (f .desc .desc)) a g (lend Table.constraints c) (lend Table.constraints c')) where
         group-at : At src (at + two .k) g
         group-at =
             wg .came at (at + two .k) (omega arith) (omega (arith, two .fits, end-in))
@@ -191,7 +192,7 @@ module _ {src : List ℕ} {at : ℕ} {f : FieldMatch} {n : Walk} (w : Ready src 
 
             -- the counts: numbers are no rows, and constraints are no fields
             no-ints : (t : Table) → count t ints ≡ 0
-            no-ints t = count-append t (integerItems v) (descItems d) ∙ ap₂ _+_ (no-number t v) (no-desc t d)
+            no-ints t = count-append t (integerItems v) (descItems d) ∙ ap₂ _+_ (no-rows t v) (no-desc t d)
 
             field-count : counted Table.fields e ≡ counted Table.fields n
             field-count =
@@ -201,7 +202,7 @@ module _ {src : List ℕ} {at : ℕ} {f : FieldMatch} {n : Walk} (w : Ready src 
                   wc .wrote .counts Table.fields,
                   no-condition-fields src at (f .cond),
                   wg .wrote .counts Table.fields,
-                  no-fields src (partNodes at (drop at src) (groupOf (f .desc .desc))),
+                  no-fields src (partNodes at (drop at src) (descList (f .desc .desc))),
                   starting same .counts Table.fields,
                   no-ints Table.fields,
                 )
@@ -210,7 +211,7 @@ module _ {src : List ℕ} {at : ℕ} {f : FieldMatch} {n : Walk} (w : Ready src 
             spare = omega (arith, field-count, w .came .few Table.fields, found-some (w .found))
 
             pub put-ready : length src < 2 ^ 64 → Knows e (slot Table.fields)
-            put-ready s = asks-own Table.fields (ce .goes .at) spare s
+            put-ready s = put-asks Table.fields (ce .goes .at) spare s
 
             start-count : counted Table.constraints a ≡ counted Table.constraints n
             start-count = omega (arith, starting same .counts Table.constraints, no-ints Table.constraints)
@@ -271,5 +272,5 @@ module _ {src : List ℕ} {at : ℕ} {f : FieldMatch} {n : Walk} (w : Ready src 
               field-done =
                   record {
                     wrote = λ xs ta. wrote-as (items-are xs (ta .counts Table.constraints)) all;
-                    came = put-own Table.fields p own words long (ce .goes .at) spare .at;
+                    came = put-goes Table.fields p own words long (ce .goes .at) spare .at;
                   }

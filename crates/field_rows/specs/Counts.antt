@@ -1,17 +1,14 @@
--- A list of fields asks no more of the items before it than how many constraints they add.
-use Prim.Native.Nat.{ℕ, zero, suc, _+_}
-use native.Mathlib.Omega.{arith}
-use mathlib.Core.Path.{_≡_, refl, ap, ap₂, sym, _∙_}
+-- One field's items, by its description, its condition, and how many constraints stand before it.
+use Prim.Native.Nat.{ℕ, _+_}
+use mathlib.Core.Path.{_≡_, refl}
 use mathlib.Core.List.{List, [], _∷_, _++_}
 use Rattle.meaning.specs.Choice.{pick}
-use Rattle.meaning.specs.Forest.{Forest, nil, tree}
+use Rattle.meaning.specs.Forest.{Forest}
 use Rattle.meaning.specs.Rules.{Rule}
-use Rattle.meaning.specs.Tables.{Table, Item, row, rowsOf, count, firstOf}
+use Rattle.meaning.specs.Tables.{Table, Item, row, count, firstOf}
 use Rattle.meaning.specs.Rows.{field-words}
-use Rattle.meaning.specs.Walk.{Part, node, part, following, place, name, optional, numbers, constraint-number, constraint-row, parse-constraint-list, Desc, described, parse-field, parse-field-list}
-use Rattle.walk.specs.Steps.{count-append}
+use Rattle.meaning.specs.Walk.{Part, node, part, following, place, name, optional, numbers, constraint-number, constraint-row, parse-constraint-list, Desc, described, parse-field}
 
--- ---- one field by its description, what follows it, and the count before it
 abbrev pub shape : List Item → List Item → List Item → List Item → List ℕ → List Item
 shape condition numbers constraints row-of ws = condition ++ (numbers ++ constraints) ++ row-of ++ row Table.fields ws ∷ []
 
@@ -29,16 +26,3 @@ pub field-by : (src : List ℕ) (xs : List Item) (s l : ℕ) (kids more : Forest
     → parse-field src xs (node s l kids more) ≡ fieldBy src (count Table.constraints xs) (described kids) (part Rule.constraint (following kids)) s l
 unfolding parse-field fieldBy
 field-by src xs s l kids more = refl
-
--- a list of fields depends on the items before it only through their count
-pub same-list : (src : List ℕ) (xs ys : List Item) (w : Forest) → count Table.constraints xs ≡ count Table.constraints ys
-    → parse-field-list src xs w ≡ parse-field-list src ys w
-unfolding parse-field-list
-same-list src xs ys nil e = refl
-same-list src xs ys (tree r s l k more) e =
-    let f : parse-field src xs (node s l k more) ≡ parse-field src ys (node s l k more)
-    = field-by src xs s l k more ∙ ap (λ (n : ℕ). fieldBy src n (described k) (part Rule.constraint (following k)) s l) e ∙ sym (field-by src ys s l k more) in
-    ap₂ _++_ f
-    (same-list src (xs ++ parse-field src xs (node s l k more)) (ys ++ parse-field src ys (node s l k more)) more
-    (count-append Table.constraints xs (parse-field src xs (node s l k more)) ∙ ap₂ _+_ e (ap (count Table.constraints) f)
-    ∙ sym (count-append Table.constraints ys (parse-field src ys (node s l k more)))))

@@ -13,9 +13,10 @@ use Rattle.spans.specs.declared.Target.the-variants.{OfField, OfPayload, OfBody
 use Rattle.spans.specs.declared.FieldDesc.{FieldDesc}
 use Rattle.spans.specs.declared.FieldDesc.the-variants.{Checksum, Padding, Size, Count, ElementSize, Body, Payload, FixedScalar, FixedEnum, Reserved, Array, Scalar, Typedef, Group}
 use Rattle.spans.specs.Drawn.{leafAt, drawOperand, drawArraySize, listAt, drawDesc}
+use Rattle.spans.specs.Answers.{descList}
 use Rattle.walk.specs.Terms.{Inside, InsideSize}
 use Rattle.walk.specs.Insides.{operand-inside, part-inside}
-use Rattle.field_rows.specs.DescTerms.{groupOf, InsideDesc}
+use Rattle.field_rows.specs.DescTerms.{InsideDesc}
 
 module _ (o n : ℕ) where
   span-in : (s : Span) → o + s .start + s .len ≤ o + n → Inside n s
@@ -56,7 +57,7 @@ module _ (o n : ℕ) where
   desc-inside t l (Group id constraints) h = span-in id (h .1 .1 .0 .1 .0)
 
 -- a group's constraints among its nodes
-pub group-held : (lo hi o : ℕ) (t : List ℕ) (l : ℕ) (f : FieldDesc) → Held lo hi (drawDesc o t l f) → Held lo hi (listAt constraint-list o t (groupOf f))
+pub group-held : (lo hi o : ℕ) (t : List ℕ) (l : ℕ) (f : FieldDesc) → Held lo hi (drawDesc o t l f) → Held lo hi (listAt constraint-list o t (descList f))
 group-held lo hi o t l (Checksum id) h = tt
 group-held lo hi o t l (Padding size) h = tt
 group-held lo hi o t l (Size id width) h = tt

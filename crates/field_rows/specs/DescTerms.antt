@@ -21,6 +21,7 @@ use Rattle.spans.specs.declared.Target.the-variants.{OfField, OfPayload, OfBody
 use Rattle.spans.specs.declared.FieldDesc.{FieldDesc}
 use Rattle.spans.specs.declared.FieldDesc.the-variants.{Checksum, Padding, Size, Count, ElementSize, Body, Payload, FixedScalar, FixedEnum, Reserved, Array, Scalar, Typedef, Group}
 use Rattle.spans.specs.Drawn.{drawDesc}
+use Rattle.spans.specs.Answers.{descList}
 use Rattle.walk.specs.declared.Described.{Described}
 use Rattle.walk.specs.declared.Name.{Name}
 use Rattle.walk.specs.declared.Number.{Number}
@@ -29,7 +30,7 @@ use Rattle.walk.specs.Steps.{Sound}
 use Rattle.walk.specs.Sounds.{number-sound, none-sound, operand-sound, size-sound}
 use Rattle.constraint_rows.specs.Listed.{partNodes}
 
--- ---- names a, b, c and numbers a, b, by the kind of a description; only a group has constraints
+-- ---- names a, b, c and numbers a, b, by the kind of a description
 abbrev pub terms : ℕ → Name → Name → Name → Number → Number → Described
 terms kind a b c na nb = record { kind = kind; a = a; b = b; c = c; na = na; nb = nb }
 
@@ -49,22 +50,6 @@ describedAs src o (Array id element size) = terms 11 (spanName o id) (operandNam
 describedAs src o (Scalar id width) = terms 12 (spanName o id) noName noName (spanNumber src o width) noNumber
 describedAs src o (Typedef id type) = terms 13 (spanName o id) (spanName o type) noName noNumber noNumber
 describedAs src o (Group id constraints) = terms 14 (spanName o id) noName noName noNumber noNumber
-
-abbrev pub groupOf : FieldDesc → Part
-groupOf (Checksum id) = Absent
-groupOf (Padding size) = Absent
-groupOf (Size id width) = Absent
-groupOf (Count id width) = Absent
-groupOf (ElementSize id width) = Absent
-groupOf Body = Absent
-groupOf (Payload modifier) = Absent
-groupOf (FixedScalar value width) = Absent
-groupOf (FixedEnum tag type) = Absent
-groupOf (Reserved width) = Absent
-groupOf (Array id element size) = Absent
-groupOf (Scalar id width) = Absent
-groupOf (Typedef id type) = Absent
-groupOf (Group id constraints) = constraints
 
 -- the spans of a description lie in a text of n bytes
 abbrev pub InsideDesc : ℕ → FieldDesc → Type 0
@@ -124,7 +109,7 @@ pub record Says (src : List ℕ) (x : Described) (g : Forest) (d : Desc) : Type 
 
 module _ (src : List ℕ) (o : ℕ) (t : List ℕ) (n : ℕ) (more : Forest) where
   abbrev Told : FieldDesc → Type 0
-  Told f = Says src (describedAs src o f) (partNodes o t (groupOf f)) (described (drawDesc o t n f ⊕ more))
+  Told f = Says src (describedAs src o f) (partNodes o t (descList f)) (described (drawDesc o t n f ⊕ more))
 
   size-says : (id : Target) (width : Span) → Told (Size id width)
   unfolding describe numbers numberAt fieldWords

@@ -1,6 +1,6 @@
 -- The form of a list of fields, what one field's rows ask of the walk that has come there, and what its condition leaves.
 use Prim.Native.Nat.{ℕ, _+_, _-_, _≤_, _<_}
-use mathlib.Core.Path.{_≡_, refl, ap, ap₂, sym, _∙_}
+use mathlib.Core.Path.{_≡_, refl, ap, sym, _∙_}
 use mathlib.Core.List.{List, [], _++_, append-nil}
 use mathlib.Core.Bool.{true}
 use lib.ListN.{length}
@@ -17,6 +17,7 @@ use Rattle.spans.specs.declared.Condition.{Condition}
 use Rattle.spans.specs.declared.Condition.the-variants.{Always, If}
 use Rattle.spans.specs.declared.FieldMatch.{FieldMatch}
 use Rattle.spans.specs.Drawn.{drawField}
+use Rattle.spans.specs.Answers.{Fielded}
 use Rattle.walk.specs.declared.Described.{Described}
 use Rattle.walk.specs.declared.Number.{Number}
 use Rattle.walk.specs.declared.Walk.{Walk}
@@ -63,6 +64,8 @@ field-form =
       peg = field;
       match = λ f. f .at;
       draw = λ f t o. drawField o t f;
+      Answered = Fielded;
+      drawn = λ t f h. h .drawn;
       items = λ src xs w. parse-field-list src xs w;
       some = eats-field;
       none = no-field;

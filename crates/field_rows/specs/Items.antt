@@ -1,6 +1,6 @@
 -- What the walk meets in one field, in the words of its spans.
 use Prim.Native.Nat.{ℕ, _+_}
-use mathlib.Core.Path.{_≡_, refl, ap, ap₂, subst, sym, _∙_}
+use mathlib.Core.Path.{_≡_, refl, ap, ap₂, subst, _∙_}
 use mathlib.Core.List.{List, [], _∷_, _++_}
 use lib.ListN.{drop}
 use Rattle.meaning.specs.Rules.{Rule}
@@ -12,7 +12,8 @@ use Rattle.spans.specs.declared.Constraint.{Constraint}
 use Rattle.spans.specs.declared.Condition.{Condition}
 use Rattle.spans.specs.declared.Condition.the-variants.{Always, If}
 use Rattle.spans.specs.declared.FieldMatch.{FieldMatch}
-use Rattle.spans.specs.Drawn.{drawCondition, drawDesc, drawField}
+use Rattle.spans.specs.Drawn.{drawCondition, drawDesc}
+use Rattle.spans.specs.Answers.{descList}
 use Rattle.walk.specs.declared.Number.{Number}
 use Rattle.walk.specs.declared.Described.{Described}
 use Rattle.walk.specs.Terms.{integerItems, noNumber, operandNumber}
@@ -22,7 +23,7 @@ use Rattle.walk.specs.Insides.{InsideConstraint}
 use Rattle.walk.specs.DrawnItems.{constraint-items, constraint-words}
 use Rattle.constraint_rows.specs.Constraints.{rowWords}
 use Rattle.constraint_rows.specs.Listed.{partNodes, partItems}
-use Rattle.field_rows.specs.DescTerms.{describedAs, groupOf, descItems, rowOf, Says, says}
+use Rattle.field_rows.specs.DescTerms.{describedAs, descItems, rowOf, Says, says}
 use Rattle.field_rows.specs.Halves.{following-desc}
 use Rattle.field_rows.specs.Counts.{shape, rows, fieldBy, field-by}
 
@@ -55,7 +56,7 @@ abbrev pub fieldSays : List ℕ → ℕ → FieldMatch → Described
 fieldSays src o f = describedAs src o (f .desc .desc)
 
 abbrev pub fieldGroup : List ℕ → ℕ → FieldMatch → List Item
-fieldGroup src o f = partItems src o (groupOf (f .desc .desc))
+fieldGroup src o f = partItems src o (descList (f .desc .desc))
 
 abbrev pub fieldCount : List ℕ → ℕ → FieldMatch → ℕ
 fieldCount src o f = count Table.constraints (fieldGroup src o f)
@@ -107,5 +108,5 @@ module _ (src : List ℕ) (o : ℕ) (f : FieldMatch) where
       ∙ ap (λ (v : Forest). fieldBy src (count Table.constraints xs) (described kids) (part Rule.constraint v) o (taken (f .at)))
       (following-desc o (drop o src) (taken (f .desc .at)) (f .desc .desc) condition)
       ∙ said-by src o (count Table.constraints xs) o (taken (f .at)) (f .cond) (described kids) (fieldSays src o f)
-      (partNodes o (drop o src) (groupOf (f .desc .desc)))
+      (partNodes o (drop o src) (descList (f .desc .desc)))
       (says src o (drop o src) (taken (f .desc .at)) condition (f .desc .desc))

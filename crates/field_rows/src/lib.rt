@@ -136,19 +136,23 @@ pub fn put_fields(
     let mut f = first;
     loop {
         m = put_field(s, i, f, m, fields, constraints);
-        let end = f.at;
-        let j = i + grammar::taken(end);
-        let comma = walk::comma(&s[j..]);
-        let more = grammar::took(comma);
-        if more {} else {
-            return Walked { walk: m, end: j };
+        let item = f.at;
+        let turn = walk::turn_behind(s, i, item);
+        if turn.more {} else {
+            return Walked {
+                walk: m,
+                end: turn.end,
+            };
         }
-        i = j + grammar::taken(comma);
+        i = turn.next;
         f = fields::field(&s[i..]);
         let next = f.at;
         let there = grammar::took(next);
         if there {} else {
-            return Walked { walk: m, end: j };
+            return Walked {
+                walk: m,
+                end: turn.end,
+            };
         }
     }
 }

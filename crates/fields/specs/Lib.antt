@@ -1,2 +1,5 @@
 pub mod Kinds
+pub mod Named
+pub mod Tokens
 pub mod Words
+pub mod Settled

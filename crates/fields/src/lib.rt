@@ -1,29 +1,27 @@
 // Fields: a field's description with its condition, and lists of fields.
 pub mod kinds;
+pub mod named;
 pub mod parts;
 
 ghost use mathlib.Core.Path.{_≡_};
 ghost use Rattle.meaning.specs.Choice.{pick};
-ghost use Rattle.meaning.specs.Peg.{seq, star, join, hit, taken};
+ghost use Rattle.meaning.specs.Peg.{seq, star, hit};
 ghost use Rattle.meaning.specs.Pdl.{text, _~_, _∣_, skip, field-desc, field, field-list};
 ghost use Rattle.grammar.specs.Matching.{Within, Reads, Steps};
-ghost use Rattle.grammar.specs.Drawing.{Draws};
-ghost use Rattle.spans.specs.Drawn.{drawDesc, drawField};
-ghost use Rattle.fields.specs.Kinds.{word-fields, fieldOf, OrDesc};
+ghost use Rattle.spans.specs.Answers.{Described, Fielded};
+ghost use Rattle.fields.specs.Kinds.{word-fields, fieldOf, Marked, OrDesc};
+ghost use Rattle.fields.specs.Words.{OnlyKind};
 ghost use Rattle.spans.specs.declared.Condition.the-variants.{Always, If};
-use crate::kinds::array_field;
 use crate::kinds::body_field;
 use crate::kinds::checksum_field;
 use crate::kinds::count_field;
 use crate::kinds::elementsize_field;
 use crate::kinds::fixed_field;
-use crate::kinds::group_field;
 use crate::kinds::padding_field;
 use crate::kinds::payload_field;
 use crate::kinds::reserved_field;
-use crate::kinds::scalar_field;
 use crate::kinds::size_field;
-use crate::kinds::typedef_field;
+use crate::named::named_field;
 use constraints::then_constraint;
 use grammar::joined;
 use grammar::settle;
@@ -38,7 +36,7 @@ use spans::DescMatch;
 use spans::FieldDesc;
 use spans::FieldMatch;
 
-// The rules of a description, in the order of the choice.
+// The rules of a description that start with a word in underscores, in the order of the choice.
 pub enum FieldKind {
     Checksum,
     Padding,
@@ -49,15 +47,11 @@ pub enum FieldKind {
     Payload,
     Fixed,
     Reserved,
-    Array,
-    Scalar,
-    Typedef,
-    Group,
 }
 
 // A description by its rule.
 fn of_kind(s: &[u8], kind: FieldKind) -> DescMatch
-    ensures { λ r. ⌜ Draws (fieldOf kind) (now (s .entry)) (r .at) (λ o. drawDesc o (now (s .entry)) (taken (r .at)) (r .desc)) ⌝ }
+    ensures { λ r. ⌜ Described (fieldOf kind) (now (s .entry)) r ⌝ }
 {
     match kind {
         FieldKind::Checksum => checksum_field(s),
@@ -69,17 +63,13 @@ fn of_kind(s: &[u8], kind: FieldKind) -> DescMatch
         FieldKind::Payload => payload_field(s),
         FieldKind::Fixed => fixed_field(s),
         FieldKind::Reserved => reserved_field(s),
-        FieldKind::Array => array_field(s),
-        FieldKind::Scalar => scalar_field(s),
-        FieldKind::Typedef => typedef_field(s),
-        FieldKind::Group => group_field(s),
     }
 }
 
 // d, with the mark of what was tried before it.
 fn marked(s: &[u8], f: usize, d: DescMatch) -> DescMatch
     requires { ⌜ Within (d .at) (now s) ⌝ }
-    ensures { λ r. ⌜ (r .at ≡ join 0 f (d .at)) × (r .desc ≡ d .desc) ⌝ }
+    ensures { λ r. ⌜ Marked f d r ⌝ }
 {
     let at = d.at;
     let desc = d.desc;
@@ -124,7 +114,7 @@ fn or_four(
 
 // The nine kinds that start with a word in underscores.
 fn word_kind(s: &[u8]) -> DescMatch
-    ensures { λ r. ⌜ Draws word-fields (now (s .entry)) (r .at) (λ o. drawDesc o (now (s .entry)) (taken (r .at)) (r .desc)) ⌝ }
+    ensures { λ r. ⌜ Described word-fields (now (s .entry)) r ⌝ }
 {
     let checksum = of_kind(s, FieldKind::Checksum);
     let sizes = or_four(
@@ -145,9 +135,16 @@ fn word_kind(s: &[u8]) -> DescMatch
     )
 }
 
-// The same, where a text with no underscore in front is told at once: it is none of them.
+// A kind where the kinds before it, which cannot stand here, leave their mark.
+fn only_kind(s: &[u8], kind: FieldKind) -> DescMatch
+    ensures { λ r. ⌜ OnlyKind kind (now (s .entry)) r ⌝ }
+{
+    marked(s, 1, of_kind(s, kind))
+}
+
+// The same, where the first letters tell at once that it is none of them, or which of the frequent ones alone it can be.
 fn word_field(s: &[u8]) -> DescMatch
-    ensures { λ r. ⌜ Draws word-fields (now (s .entry)) (r .at) (λ o. drawDesc o (now (s .entry)) (taken (r .at)) (r .desc)) ⌝ }
+    ensures { λ r. ⌜ Described word-fields (now (s .entry)) r ⌝ }
 {
     let front = literal(s, b"_");
     if let Match::Missed(_) = front {
@@ -156,22 +153,43 @@ fn word_field(s: &[u8]) -> DescMatch
             desc: FieldDesc::Body,
         };
     }
+    let size = literal(s, b"_s");
+    if let Match::Took(_, _) = size {
+        return only_kind(s, FieldKind::Size);
+    }
+    let reserved = literal(s, b"_r");
+    if let Match::Took(_, _) = reserved {
+        return only_kind(s, FieldKind::Reserved);
+    }
+    let payload = literal(s, b"_pay");
+    if let Match::Took(_, _) = payload {
+        return only_kind(s, FieldKind::Payload);
+    }
+    let count = literal(s, b"_co");
+    if let Match::Took(_, _) = count {
+        return only_kind(s, FieldKind::Count);
+    }
+    let body = literal(s, b"_b");
+    if let Match::Took(_, _) = body {
+        return only_kind(s, FieldKind::Body);
+    }
+    let fixed = literal(s, b"_f");
+    if let Match::Took(_, _) = fixed {
+        return only_kind(s, FieldKind::Fixed);
+    }
     word_kind(s)
 }
 
 // A field's description.
 pub fn field_desc(s: &[u8]) -> DescMatch
-    ensures { λ r. ⌜ Draws field-desc (now (s .entry)) (r .at) (λ o. drawDesc o (now (s .entry)) (taken (r .at)) (r .desc)) ⌝ }
+    ensures { λ r. ⌜ Described field-desc (now (s .entry)) r ⌝ }
 {
     let words = word_field(s);
-    or_four(
-        s,
-        words,
-        FieldKind::Array,
-        FieldKind::Scalar,
-        FieldKind::Typedef,
-        FieldKind::Group,
-    )
+    let end = words.at;
+    match end {
+        Match::Took(_, _) => return words,
+        Match::Missed(f) => return marked(s, f, named_field(s)),
+    }
 }
 
 // The condition of a field, where the constraint c was matched as x.
@@ -187,12 +205,20 @@ fn kept_condition(x: Match, c: Constraint) -> Condition
 
 // A field: its description, and its condition if there is one. Without one it ends after the blanks behind it.
 pub fn field(s: &[u8]) -> FieldMatch
-    ensures { λ r. ⌜ Draws field (now (s .entry)) (r .at) (λ o. drawField o (now (s .entry)) r) ⌝ }
+    ensures { λ r. ⌜ Fielded (now (s .entry)) r ⌝ }
 {
     let desc = field_desc(s);
     let a = desc.at;
     let b = then_blanks(s, a);
-    let c = then_constraint(s, then_blanks(s, then_literal(s, b, b"if")));
+    let word = then_literal(s, b, b"if");
+    if let Match::Missed(_) = word {
+        return FieldMatch {
+            at: settle(s, b, word),
+            desc,
+            cond: Condition::Always,
+        };
+    }
+    let c = then_constraint(s, then_blanks(s, word));
     let x = c.at;
     let constraint = c.constraint;
     let at = settle(s, b, x);

@@ -1,3 +1,4 @@
 pub mod Numbers
-pub mod States
+pub mod Layouts
+pub mod Names
 pub mod Sources

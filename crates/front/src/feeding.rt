@@ -1,7 +1,7 @@
 // Feeding a declaration to the aligner.
 ghost use mathlib.Core.Path.{_≡_};
 ghost use Rattle.meaning.specs.Feeding.{layout};
-ghost use Rattle.front.specs.States.{left, laying};
+ghost use Rattle.front.specs.Layouts.{left, laying};
 
 // Lays out the fields of the declaration row at index: the number of the refusal, or 0. Its place and the counts of placed
 // and chunk rows go to answer.

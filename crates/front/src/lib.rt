@@ -2,5 +2,7 @@
 pub mod aligning;
 pub mod feeding;
 pub mod matching;
+pub mod places;
+pub mod recording;
 pub mod sources;
 pub mod texts;

@@ -13,7 +13,7 @@ use Rattle.meaning.specs.Peg.{Peg, lit, range, any, any-byte, end, neg, seq, al
 use Rattle.meaning.specs.Utf8.{character}
 use Rattle.meaning.specs.Forest.{Forest, nil, tree, _⊕_, Out, missed, took, outcome, leaf, joinO, afterO, orElseO, maybeO, turnedO, hushedO, againO, noteO, manyO, eval, forest, clean, nodes}
 use Rattle.grammar.specs.Matching.{Reads}
-use Rattle.grammar.specs.Fits.{within-taken}
+use Rattle.grammar.specs.Fits.{within-taken, within-run}
 use Rattle.grammar.specs.Agree.{same}
 use Rattle.grammar.specs.Drawing.{Draws}
 
@@ -136,3 +136,7 @@ held {g} {t} {r} {w} d h o =
 -- a match at i in a source
 pub took-inside : {g : Peg} (src : List ℕ) {r : Match} (i : ℕ) → i ≤ length src → Reads g (drop i src) r → taken r ≤ length src - i
 took-inside {g} src {r} i e h = omega (arith, within-taken r (drop i src) (h .fits), length-drop i src)
+
+pub run-inside : (src : List ℕ) (i : ℕ) (g : Peg) → i ≤ length src → i + taken (run (bytewise g) (drop i src)) ≤ length src
+run-inside src i g e =
+    omega (arith, within-taken (run (bytewise g) (drop i src)) (drop i src) (within-run (bytewise g) (drop i src)), length-drop i src)

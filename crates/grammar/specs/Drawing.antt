@@ -49,13 +49,13 @@ drawn s = record { steps = s; draws = λ h o. refl }
 pub blank : {m : Match} {g : Peg} {t : List ℕ} {r : Match} → ((o : ℕ) (u : List ℕ) → nodes (bytewise g) o u ≡ nil) → Steps m g t r → Follows m g t r (λ o. nil)
 blank {m} {g} {t} {r} e s = record { steps = s; draws = λ h o. e (o + taken m) (drop (taken m) t) }
 
-part-taken : (m : Match) (g : Peg) (t : List ℕ) (r : Match) → Steps m g t r → hit r ≡ true → taken (run (bytewise g) (drop (taken m) t)) ≡ taken r - taken m
+pub part-taken : (m : Match) (g : Peg) (t : List ℕ) (r : Match) → Steps m g t r → hit r ≡ true → taken (run (bytewise g) (drop (taken m) t)) ≡ taken r - taken m
 part-taken m g t r s h =
     let e : taken r ≡ taken m + taken (run (bytewise g) (drop (taken m) t))
     = ap taken (s .is) ∙ taken-after m (λ u. run (bytewise g) u) t (ap hit (sym (s .is)) ∙ h) in
     omega (arith, e)
 
-part-hit : (m : Match) (g : Peg) (t : List ℕ) (r : Match) → Steps m g t r → hit r ≡ true → hit (run (bytewise g) (drop (taken m) t)) ≡ true
+pub part-hit : (m : Match) (g : Peg) (t : List ℕ) (r : Match) → Steps m g t r → hit r ≡ true → hit (run (bytewise g) (drop (taken m) t)) ≡ true
 part-hit m g t r s h = hit-behind m (λ u. run (bytewise g) u) t (ap hit (sym (s .is)) ∙ h)
 
 -- a token is one node

@@ -16,3 +16,7 @@ pub mod Bounds
 pub mod Order
 pub mod Openings
 pub mod Choices
+pub mod Settled
+pub mod Shared
+pub mod Behind
+pub mod Telling

@@ -86,6 +86,10 @@ link {a} {b} {t} {m} {x} {r} h k =
 pub start : {g : Peg} {t : List ℕ} {r : Match} → Steps (Took 0 0) g t r → Reads g t r
 start {g} {t} {r} h = record { is = h .is ∙ sym (join-0 (run (bytewise g) t)); fits = h .fits }
 
+pub taken-at : (n : ℕ) (t : List ℕ) {g : Peg} {x : Match} → Steps (Took 0 0) g (take (length t - n) (drop n t)) x
+    → taken x ≡ taken (run (bytewise g) (drop n t))
+taken-at n t h = ap taken (at n t (start h) .is)
+
 pub named : {g : Peg} {t : List ℕ} {r : Match} (k : Rule) → Reads g t r → Reads (rule k g) t r
 unfolding run
 named k h = record { is = h .is; fits = h .fits }

@@ -1,5 +1,6 @@
 -- What the programs list of a source: at most 16,384 bytes of it, over tables of 40, 100, 100, 60 and 100 rows (01, at P3).
 use Prim.Native.Nat.{ℕ, _*_}
+use mathlib.Core.Path.{_≡_}
 use mathlib.Core.List.{List}
 use lib.Dec.{ltb, eqb}
 use lib.ListN.{length, getD, replicate}
@@ -7,7 +8,7 @@ use Rattle.meaning.specs.Choice.{pick}
 use Rattle.meaning.specs.Tables.{Table, size, Lent}
 use Rattle.meaning.specs.Reading.{Outcome, answer}
 use Rattle.io.specs.Counts.{Counts}
-use Rattle.printing.specs.Pages.{Wrote}
+use Rattle.printing.specs.Pages.{Wrote, wrote-settled}
 use Rattle.printing.specs.Answers.{refusal, answered}
 use Rattle.printing.specs.Layouts.{layouts}
 use Rattle.listing.specs.declared.Wanted.{Wanted}
@@ -44,3 +45,7 @@ listed wanted src = pick (ltb longest (length src)) (refusal 1 longest 0) (lines
 pub record Lists (text before : List ℕ) (r : ℕ) (after : List ℕ) : Type 0 where
   pub wrote : Wrote text 0 before r after
   pub count : Counts r after
+
+-- no two pages satisfy it
+pub lists-settled : {text before : List ℕ} {r s : ℕ} {b c : List ℕ} → Lists text before r b → Lists text before s c → (r ≡ s) × (b ≡ c)
+lists-settled x y = wrote-settled (x .wrote) (y .wrote)

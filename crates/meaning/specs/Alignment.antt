@@ -84,6 +84,10 @@ dyn-number w = first ((ltb 0 (sound w) ⇒ 18) ∷ (staged (w .st) ⇒ 10) ∷ (
 unfoldable pub end-number : World → ℕ
 end-number w = first ((ltb 0 (sound w) ⇒ 18) ∷ (staged (w .st) ⇒ 16) ∷ [])
 
+-- beside its number the end answers the chunk count, 0 when refused
+abbrev pub end-chunks : World → ℕ
+end-chunks w = pick (eqb (end-number w) 0) (w .st .chunks) 0
+
 -- chunk kinds: bits 1, bytes 2, dynamic 3
 unfoldable pub bits-done : ℕ → ℕ → World → World
 bits-done symbol width w =

@@ -12,6 +12,7 @@ pub enum Match {
 }
 
 // A place in a source: offset, line and column, from zero, in bytes (ast.rs).
+#[repr(C)]
 pub struct SourceLocation {
     pub offset: usize,
     pub line: usize,
@@ -56,6 +57,7 @@ pub enum Converted {
 }
 
 // The aligner's state (01, 'Aligner'): rows placed, chunk rows, the first staged placed row, the staged width.
+#[repr(C)]
 pub struct Aligner {
     pub placed: usize,
     pub chunks: usize,

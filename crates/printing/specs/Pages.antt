@@ -1,6 +1,6 @@
 -- A page of bytes, of which the first stand there already, and what texts written behind them leave.
 use Prim.Native.Nat.{ℕ, _+_, _≤_}
-use mathlib.Core.Path.{_≡_}
+use mathlib.Core.Path.{_≡_, ap, sym, _∙_}
 use mathlib.Core.List.{List, [], _∷_}
 use lib.Dec.{ltb}
 use lib.ListN.{length, set}
@@ -27,6 +27,11 @@ wrote (b ∷ bs) p = wrote bs (put b p)
 pub record Wrote (text : List ℕ) (at : ℕ) (before : List ℕ) (r : ℕ) (after : List ℕ) : Type 0 where
   pub is : page r after ≡ wrote text (page at before)
   pub fits : at ≤ length before → r ≤ length after
+
+-- no two pages satisfy it
+pub wrote-settled : {text : List ℕ} {at : ℕ} {before : List ℕ} {r s : ℕ} {b c : List ℕ} → Wrote text at before r b
+    → Wrote text at before s c → (r ≡ s) × (b ≡ c)
+wrote-settled x y = (ap (λ (p : Page). p .used) (x .is ∙ sym (y .is)), ap (λ (p : Page). p .bytes) (x .is ∙ sym (y .is)))
 
 -- and what holds on the way, in a loop that writes a whole: what is left to write gives the whole
 pub record Left (rest whole : List ℕ) (at : ℕ) (before : List ℕ) (next : ℕ) (after : List ℕ) : Type 0 where

@@ -24,7 +24,7 @@ use Rattle.grammar.specs.Steps.{rest-is}
 use Rattle.reading.specs.declared.files.Line.{Line}
 use Rattle.reading.specs.Lines.{line-start, line-length, line-end, Lined}
 use Rattle.reading.specs.FileNodes.{line-hit, line-node, line-node-length}
-use Rattle.reading.specs.Matched.{Matched, whole, joined}
+use Rattle.reading.specs.Sources.{Matched, whole, joined}
 
 abbrev pub little : List ℕ
 little = bytes "little_endian_packets"

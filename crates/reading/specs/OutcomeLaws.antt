@@ -18,10 +18,10 @@ use Rattle.comments.specs.Lex.{lexical}
 use Rattle.reading.specs.declared.Answer.{Answer}
 use Rattle.reading.specs.declared.Survey.{Survey}
 use Rattle.reading.specs.declared.Short.{Short}
-use Rattle.reading.specs.Totals.{Tabled}
-use Rattle.reading.specs.Matched.{whole, declared, declared-rows, lexed-rows}
+use Rattle.walk.specs.Totals.{Tabled}
+use Rattle.reading.specs.Sources.{whole, declared, declared-rows, lexed-rows}
 use Rattle.reading.specs.Surveys.{surveyed, Surveyed, shortOf}
-use Rattle.reading.specs.Accepts.{Accepts, matched, reads, accepts}
+use Rattle.reading.specs.Acceptance.{Accepts, matched, reads, accepts}
 use Rattle.reading.specs.Outcomes.{lending, outcome, refusing, accepting}
 
 -- the answer, and what the tables hold then

@@ -17,16 +17,12 @@ use Rattle.meaning.specs.Rows.{endianness-size}
 use Rattle.meaning.specs.Walk.{part, items, endianness}
 use Rattle.meaning.specs.Reading.{Reading, refused, accepted, longest, walked, parsed, reading, Outcome, zeros, stored, settle, answer}
 use Rattle.reading.specs.Sorts.{of-toplevel, of-comments}
-use Rattle.reading.specs.Parted.{sized}
-use Rattle.reading.specs.Matched.{whole}
+use Rattle.reading.specs.Partition.{sized}
+use Rattle.reading.specs.Sources.{whole}
 use Rattle.reading.specs.Surveys.{surveyed}
-use Rattle.reading.specs.Accepts.{Accepts, reads, accepts}
+use Rattle.reading.specs.Acceptance.{Accepts, reads, accepts}
 use Rattle.ast.specs.RowLaws.{Sized, length-puts}
 use Rattle.reading.specs.Rooms.{Roomy, roomy, none-short, first-words, words-behind}
-
--- ---- one outcome satisfies it
-pub one-outcome : (src : List ℕ) (l : Lent) (o p : Outcome) → o ≡ answer src l → p ≡ answer src l → o ≡ p
-one-outcome src l o p e h = e ∙ sym h
 
 -- ---- a number from 0 to 5; an accepted reading has no place and no reason, and a refused one leaves all as it came
 pub record Orderly (l : Lent) (o : Outcome) : Type 0 where

@@ -25,8 +25,8 @@ use Rattle.declarations.specs.declared.files.FileMatch.{FileMatch}
 use Rattle.declarations.specs.Files.{Files, placed-unmatched}
 use Rattle.comments.specs.Lex.{lexical, comment-count}
 use Rattle.reading.specs.declared.Survey.{Survey}
-use Rattle.reading.specs.Totals.{Tabled}
-use Rattle.reading.specs.Matched.{Matched, whole, declared, declared-rows, declared-bad, lexed-rows}
+use Rattle.walk.specs.Totals.{Tabled}
+use Rattle.reading.specs.Sources.{Matched, whole, declared, declared-rows, declared-bad, lexed-rows}
 use Rattle.reading.specs.Surveys.{surveyed, Surveyed}
 use Rattle.reading.specs.Outcomes.{lending}
 

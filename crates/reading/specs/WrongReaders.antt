@@ -16,7 +16,7 @@ use Rattle.meaning.specs.Walk.{items}
 use Rattle.meaning.specs.Reading.{Outcome, counted, answer}
 use Rattle.meaning.specs.Everything.{everything}
 use Rattle.meaning.specs.Papers.{p3-source}
-use Rattle.reading.specs.Matched.{whole}
+use Rattle.reading.specs.Sources.{whole}
 use Rattle.reading.specs.Promises.{Acceptable, rows, accepted-only, words}
 
 -- a reader takes a source and the lent words to an answer and the words that it leaves

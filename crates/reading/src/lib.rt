@@ -7,7 +7,7 @@
 ghost use mathlib.Core.Path.{_≡_};
 ghost use Rattle.meaning.specs.Walk.{endianness};
 ghost use Rattle.meaning.specs.Reading.{refused, walked, reading, answer};
-ghost use Rattle.reading.specs.Matched.{Matched, whole};
+ghost use Rattle.reading.specs.Sources.{Matched, whole};
 ghost use Rattle.reading.specs.Surveys.{surveyed, Surveyed, shortOf};
 ghost use Rattle.reading.specs.Outcomes.{lending, outcome, refusing, accepting};
 use crate::files::endianness;

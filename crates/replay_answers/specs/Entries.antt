@@ -1,6 +1,6 @@
 -- The lines before the entries of a list, and an entry: its text, and where its parts stand.
 use Prim.Native.Nat.{ℕ, suc, _+_, _-_, _≤_, _<_}
-use mathlib.Core.Path.{_≡_}
+use mathlib.Core.Path.{_≡_, refl, sym}
 use mathlib.Core.List.{List, [], _∷_, _++_}
 use mathlib.Core.Bool.{Bool, true, false, not}
 use lib.Dec.{eqb}
@@ -12,6 +12,12 @@ use Rattle.replay_answers.specs.declared.entries.Entry.{Entry}
 -- an answer is true exactly where a fact holds
 abbrev pub Tells : Bool → Type 0 → Type 0
 Tells r fact = (r ≡ true → fact) × (fact → r ≡ true)
+
+pub tells-settled : (r s : Bool) {fact : Type 0} → Tells r fact → Tells s fact → r ≡ s
+tells-settled true true x y = refl
+tells-settled true false x y = sym (y .1 (x .0 refl))
+tells-settled false true x y = x .1 (y .0 refl)
+tells-settled false false x y = refl
 
 abbrev pub part : List ℕ → ℕ → ℕ → List ℕ
 part list from to = take (to - from) (drop from list)

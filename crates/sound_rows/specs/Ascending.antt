@@ -13,9 +13,9 @@ use Rattle.meaning.specs.Tables.{Table, number, Item, rowsOf}
 use Rattle.meaning.specs.Walk.{part, comments, items}
 use Rattle.meaning.specs.Reading.{accepted, reading}
 use Rattle.reading.specs.Sorts.{of-toplevel, of-comments}
-use Rattle.reading.specs.Parted.{comment-rows}
-use Rattle.reading.specs.Matched.{whole, declared, declared-rows}
-use Rattle.reading.specs.Accepts.{Accepts}
+use Rattle.reading.specs.Partition.{comment-rows}
+use Rattle.reading.specs.Sources.{whole, declared, declared-rows}
+use Rattle.reading.specs.Acceptance.{Accepts}
 use Rattle.sound_rows.specs.Placement.{Known, ranged-clean, Stands, stand}
 use Rattle.sound_rows.specs.Between.{start, Laid}
 use Rattle.sound_rows.specs.BetweenDeclarations.{toplevel-between, comments-between}

@@ -9,8 +9,8 @@ use Rattle.meaning.specs.Forest.{Forest, nil, tree, clean}
 use Rattle.meaning.specs.Tables.{Table, Item}
 use Rattle.meaning.specs.Walk.{Part, absent, node, part, following, parse-enum-tag, described, parse-constraint-list, parse-field, parse-field-list, kinds, kindIn, parse-declaration, parse-kind, parse-toplevel, items}
 use Rattle.meaning.specs.Feeding.{damaged}
-use Rattle.reading.specs.Matched.{whole}
-use Rattle.reading.specs.Accepts.{Accepts}
+use Rattle.reading.specs.Sources.{whole}
+use Rattle.reading.specs.Acceptance.{Accepts}
 use Rattle.text.specs.ChoiceLaws.{both-is}
 use Rattle.sound_rows.specs.EveryRow.{Every, none, a-row, Free, every-++, every-pick, every-each, of-comments, of-number, of-numbers, of-constraint-number, of-constraint-row, of-constraints, of-enum-tag}
 use Rattle.sound_rows.specs.Notes.{all, AllNotes, notes-next, notes-following, notes-kids}

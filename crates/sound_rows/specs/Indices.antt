@@ -18,8 +18,8 @@ use Rattle.meaning.specs.Walk.{Part, node, part, following, each, place, name, 
 use Rattle.meaning.specs.Reading.{Reading, refused, accepted, reading}
 use Rattle.meaning.specs.Everything.{everything}
 use Rattle.walk.specs.Steps.{count-append}
-use Rattle.reading.specs.Matched.{whole, declared}
-use Rattle.reading.specs.Accepts.{Accepts}
+use Rattle.reading.specs.Sources.{whole, declared}
+use Rattle.reading.specs.Acceptance.{Accepts}
 use Rattle.sound_rows.specs.EveryRow.{Every, none, a-row, Free, every-++, every-pick, every-each, at-row, of-comments, of-number, of-numbers, of-constraint-number, of-constraint-row, of-constraints, of-enum-tag}
 use Rattle.standing.specs.Kinds.{tags-part, Kinded}
 use Rattle.standing.specs.Files.{to-core}

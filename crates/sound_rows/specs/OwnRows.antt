@@ -14,7 +14,7 @@ use Rattle.meaning.specs.Walk.{items}
 use Rattle.meaning.specs.Reading.{answer}
 use Rattle.meaning.specs.Feeding.{declaration-word, field-word, among, damaged, feed-number, layout}
 use Rattle.meaning.specs.Everything.{everything}
-use Rattle.reading.specs.Matched.{whole}
+use Rattle.reading.specs.Sources.{whole}
 use Rattle.reading.specs.Promises.{Acceptable, accepted-only}
 use Rattle.text.specs.ChoiceLaws.{never}
 use Rattle.sound_rows.specs.EveryRow.{at-row}

@@ -13,7 +13,7 @@ use Rattle.meaning.specs.Rules.{Rule, order, is}
 use Rattle.meaning.specs.Peg.{Peg}
 use Rattle.meaning.specs.Forest.{Forest, nil, tree, _⊕_, clean}
 use Rattle.meaning.specs.Pdl.{rules as grammar}
-use Rattle.reading.specs.Matched.{whole}
+use Rattle.reading.specs.Sources.{whole}
 use Rattle.text.specs.ChoiceLaws.{both-is, never}
 use Rattle.locality.specs.Plain.{shift, plain, took}
 use Rattle.locality.specs.Holding.{NodeLaw, allowed, nodes-hold}

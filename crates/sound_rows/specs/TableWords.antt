@@ -13,9 +13,9 @@ use Rattle.meaning.specs.Walk.{part, items}
 use Rattle.meaning.specs.Reading.{Outcome, answer}
 use Rattle.meaning.specs.Feeding.{word}
 use Rattle.ast.specs.RowLaws.{Sized, length-puts}
-use Rattle.reading.specs.Matched.{whole}
+use Rattle.reading.specs.Sources.{whole}
 use Rattle.reading.specs.Sorts.{of-toplevel, of-comments}
-use Rattle.reading.specs.Parted.{sized}
+use Rattle.reading.specs.Partition.{sized}
 use Rattle.reading.specs.Promises.{Acceptable, rows, words}
 use Rattle.sound_rows.specs.Indices.{nth}
 

@@ -4,6 +4,8 @@ ghost use mathlib.Core.Path.{_≡_};
 ghost use Rattle.meaning.specs.Choice.{pick};
 ghost use Rattle.meaning.specs.Peg.{hit};
 ghost use Rattle.spans.specs.Spans.{spanOf};
+ghost use Rattle.spans.specs.Answers.{nowhere};
+ghost use Rattle.spans.specs.declared.Operand.the-variants.{Identifier};
 ghost use Rattle.spans.specs.declared.Part.the-variants.{Absent};
 use meaning::Match;
 
@@ -147,7 +149,29 @@ pub fn between(m: Match, r: Match) -> Span
     }
 }
 
-// A part, where the match x that it stands in took.
+// A span, where the match x that it stands in took; else none.
+pub fn kept_span(x: Match, span: Span) -> Span
+    ensures { λ r. ⌜ r ≡ pick (hit x) span nowhere ⌝ }
+{
+    let there = grammar::took(x);
+    if there {
+        return span;
+    }
+    Span { start: 0, len: 0 }
+}
+
+// A name or a number, likewise.
+pub fn kept_operand(x: Match, operand: Operand) -> Operand
+    ensures { λ r. ⌜ r ≡ pick (hit x) operand (Identifier nowhere) ⌝ }
+{
+    let there = grammar::took(x);
+    if there {
+        return operand;
+    }
+    Operand::Identifier(Span { start: 0, len: 0 })
+}
+
+// A part that may be absent, likewise.
 pub fn kept_part(x: Match, part: Part) -> Part
     ensures { λ r. ⌜ r ≡ pick (hit x) part Absent ⌝ }
 {

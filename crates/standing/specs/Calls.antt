@@ -13,8 +13,8 @@ use Rattle.meaning.specs.Walk.{items, endianness}
 use Rattle.meaning.specs.Reading.{accepted, longest, reading, Outcome, counted, answer, counts-of, rows-left}
 use Rattle.meaning.specs.Moving.{Move, moved-rows, KeywordLine, appended}
 use Rattle.ast.specs.RowLaws.{Sized}
-use Rattle.reading.specs.Matched.{whole}
-use Rattle.reading.specs.Accepts.{reads}
+use Rattle.reading.specs.Sources.{whole}
+use Rattle.reading.specs.Acceptance.{reads}
 use Rattle.reading.specs.Promises.{Acceptable, rows, rows-sized, words, words-past, accepted-if, accepted-only}
 use Rattle.standing.specs.MovedItems.{rows-length}
 use Rattle.standing.specs.Accepting.{read}

@@ -15,7 +15,7 @@ use Rattle.meaning.specs.Forest.{Forest, nil, tree, _⊕_, clean}
 use Rattle.meaning.specs.Pdl.{rules as grammar}
 use Rattle.meaning.specs.Walk.{Part, absent, node, part, place, endianness}
 use Rattle.grammar.specs.Bounds.{Held}
-use Rattle.reading.specs.Matched.{whole}
+use Rattle.reading.specs.Sources.{whole}
 use Rattle.text.specs.ChoiceLaws.{never}
 use Rattle.locality.specs.Plain.{Out, missed, took, shift, seqE, plain, Took}
 use Rattle.locality.specs.PlainLaws.{took-part}

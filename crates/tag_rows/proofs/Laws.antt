@@ -5,7 +5,7 @@ use mathlib.Core.Path.{_≡_, ap, ap₂, subst, sym, _∙_}
 use mathlib.Core.List.{List, [], _∷_}
 use lib.ListN.{length, drop}
 use Rattle.meaning.specs.Rules.{Rule}
-use Rattle.meaning.specs.Peg.{hit, taken}
+use Rattle.meaning.specs.Peg.{taken}
 use Rattle.meaning.specs.Forest.{Forest}
 use Rattle.meaning.specs.Tables.{Table, number, row, Lent}
 use Rattle.meaning.specs.Walk.{following}
@@ -19,6 +19,7 @@ use Rattle.spans.specs.declared.Tag.{Tag}
 use Rattle.spans.specs.declared.Tag.the-variants.{Value, Range, Other}
 use Rattle.spans.specs.declared.TagMatch.{TagMatch}
 use Rattle.spans.specs.Drawn.{leafAt, drawTag}
+use Rattle.spans.specs.Answers.{SoundTag}
 use Rattle.walk.specs.declared.Door.the-variants.{Write}
 use Rattle.walk.specs.declared.Name.{Name}
 use Rattle.walk.specs.declared.Number.{Number}
@@ -26,12 +27,12 @@ use Rattle.walk.specs.declared.Walk.{Walk}
 use Rattle.walk.specs.Insides.{span-inside}
 use Rattle.walk.specs.Terms.{integerItems, noNumber, spanName, tagWords, spanNumber}
 use Rattle.walk.specs.Sounds.{number-sound, tag-sized}
-use Rattle.walk.specs.State.{slot, lend, noted, At, Goes, same, Came, Knows, Put}
-use Rattle.walk.specs.Steps.{Spare, wrote-then, at-on, goes-none, goes-then, goes-in, goes-as, noted-goes, put-asks, put-goes, stood, spare}
-use Rattle.walk.specs.Lists.{GoesOne, found-some, found-in}
-use Rattle.tag_rows.specs.Tags.{values, tags, rowWords, valueItems, otherItems, rangeItems, inside-value, inside-range, inside-other, tag-value, tag-range, tag-other, Placed, PlacedValue, PlacedRange, Ready}
+use Rattle.walk.specs.State.{slot, counted, lend, noted, At, Goes, same, Came, Knows, Put}
+use Rattle.walk.specs.Steps.{wrote-then, at-on, goes-none, goes-then, goes-in, goes-as, noted-goes}
+use Rattle.walk.specs.Doors.{put-asks, put-goes, stood, spare}
+use Rattle.walk.specs.Lists.{GoesOne, found-drawn, found-hit, found-some, found-in, one-done}
+use Rattle.tag_rows.specs.Tags.{value-form, tag-form, rowWords, valueItems, otherItems, rangeItems, inside-value, inside-range, inside-other, tag-value, tag-range, tag-other, Placed, PlacedValue, PlacedRange, Ready}
 use Rattle.tag_rows.specs.Braces.{tag-behind, braced}
-use Rattle.tag_rows.proofs.Steps.{one-done}
 
 -- ---- one row: the walk comes to its start as a, and to its end as b
 module _ {src : List ℕ} {at len : ℕ} {id : Span} {n : Walk} (w : Placed src at len id n) where
@@ -40,8 +41,8 @@ module _ {src : List ℕ} {at len : ℕ} {id : Span} {n : Walk} (w : Placed src 
     end-ready = at-on (omega arith) (w .within) (ca .goes .at)
 
     module _ {b : Walk} (cb : Came src (at + len) a b) where
-      row-spare : Spare (at + len) b
-      row-spare = spare (w .came) (wrote-then (ca .goes .wrote) (cb .goes .wrote)) (omega (arith, w .some))
+      row-spare : counted Table.tags b < at + len
+      row-spare = spare (w .came) (wrote-then (ca .goes .wrote) (cb .goes .wrote)) (omega (arith, w .some)) Table.tags
 
       pub row-asks : length src < 2 ^ 64 → Knows b (slot Table.tags)
       row-asks s = put-asks Table.tags (cb .goes .at) row-spare s
@@ -102,9 +103,9 @@ module _ (src : List ℕ) (at k : ℕ) (n : Walk) (came : At src at n) (some : a
   other-placed : (x : TagOther) → Held at (at + k) (drawTag at (drop at src) k (Other x)) → Placed src at k (x .id) n
   other-placed x h = record { came = came; some = omega (arith, some); within = within; name = span-inside Rule.identifier at k (x .id) (h .1 .1 .0) }
 
-  range-placed : (x : TagRange) → Held at (at + k) (drawTag at (drop at src) k (Range x))
+  range-placed : (x : TagRange) → SoundTag (drop at src) (Range x) → Held at (at + k) (drawTag at (drop at src) k (Range x))
       → From (at + 1) (following (kidsOf (drawTag at (drop at src) k (Range x)))) → PlacedRange src at k x n
-  range-placed x h b =
+  range-placed x m h b =
       let id : at + x .id .start + x .id .len ≤ at + k = h .1 .1 .0 .1 .0 in
       let low = h .1 .1 .0 .1 .1 .1 in
       let start : at + x .start .start + x .start .len ≤ at + k = low .1 .0 in
@@ -114,39 +115,39 @@ module _ (src : List ℕ) (at k : ℕ) (n : Walk) (came : At src at n) (some : a
         place = record { came = came; some = omega (arith, some); within = within; name = omega (arith, id) };
         start = omega (arith, start);
         end = omega (arith, end);
-        braces = braced src at (x .tags) k within (high .1 .1 .1) (b .1 .1);
+        braces = braced src at (x .tags) k m (high .1 .1 .1) (b .1 .1);
       }
 
 -- ---- an answer inside a range: the values, and no other tags
-module _ {src : List ℕ} {at : ℕ} {c : TagMatch} {n : Walk} (w : Ready values src at c n) {len : ℕ} (el : len ≡ taken (c .at)) where
+module _ {src : List ℕ} {at : ℕ} {c : TagMatch} {n : Walk} (w : Ready value-form src at c n) {len : ℕ} (el : len ≡ taken (c .at)) where
   pub inner-ready : {v : TagValue} → c .tag ≡ Value v → PlacedValue src at len v n
   inner-ready {v} e =
       subst (λ (k : ℕ). PlacedValue src at k v n) (sym el)
       (value-placed src at (taken (c .at)) n (w .came) (found-some (w .found)) (found-in (w .found)) v
-      (subst (λ (y : Tag). Held at (at + taken (c .at)) (drawTag at (drop at src) (taken (c .at)) y)) e (held (w .found .drawn) (w .found .hits) at)))
+      (subst (λ (y : Tag). Held at (at + taken (c .at)) (drawTag at (drop at src) (taken (c .at)) y)) e (held (found-drawn (w .found)) (w .found .hits) at)))
 
   pub inner-done : {v : TagValue} {r : Walk} {a b : Lent → Lent} → c .tag ≡ Value v → Goes (valueItems src 4 at len v) src (at + len) n r a b
-      → GoesOne values src at c n r a b
-  inner-done {v} e g = one-done values el (λ xs. ap (λ (k : ℕ). valueItems src 4 at k v) el ∙ sym (inside-value src at c v e)) g
+      → GoesOne value-form src at c n r a b
+  inner-done {v} e g = one-done {z = value-form} el (λ xs. ap (λ (k : ℕ). valueItems src 4 at k v) el ∙ sym (inside-value src at c v e)) g
 
-  inner-other : {a : Lent → Lent} → values .items src [] (values .draw c (drop at src) at) ≡ [] → GoesOne values src at c n n a a
-  inner-other {a} e = one-done values el (λ xs. sym e) (goes-none a (at-on (omega arith) (omega (arith, el, found-in (w .found))) (w .came)))
+  inner-other : {a : Lent → Lent} → value-form .items src [] (value-form .draw c (drop at src) at) ≡ [] → GoesOne value-form src at c n n a a
+  inner-other {a} e = one-done {z = value-form} el (λ xs. sym e) (goes-none a (at-on (omega arith) (omega (arith, el, found-in (w .found))) (w .came)))
 
-  pub inner-range : {x : TagRange} {a : Lent → Lent} → c .tag ≡ Range x → GoesOne values src at c n n a a
+  pub inner-range : {x : TagRange} {a : Lent → Lent} → c .tag ≡ Range x → GoesOne value-form src at c n n a a
   inner-range {x} e = inner-other (inside-range src at c x e)
 
-  pub inner-default : {x : TagOther} {a : Lent → Lent} → c .tag ≡ Other x → GoesOne values src at c n n a a
+  pub inner-default : {x : TagOther} {a : Lent → Lent} → c .tag ≡ Other x → GoesOne value-form src at c n n a a
   inner-default {x} e = inner-other (inside-other src at c x e)
 
 -- ---- an answer of the enum's list
-module _ {src : List ℕ} {at : ℕ} {c : TagMatch} {n : Walk} (w : Ready tags src at c n) {len : ℕ} (el : len ≡ taken (c .at)) where
+module _ {src : List ℕ} {at : ℕ} {c : TagMatch} {n : Walk} (w : Ready tag-form src at c n) {len : ℕ} (el : len ≡ taken (c .at)) where
   tag-held : Held at (at + taken (c .at)) (drawTag at (drop at src) (taken (c .at)) (c .tag))
-  tag-held = held (w .found .drawn) (w .found .hits) at .1 .1 .0
+  tag-held = held (found-drawn (w .found)) (w .found .hits) at .1 .1 .0
 
   tag-from : From (at + 1) (following (kidsOf (drawTag at (drop at src) (taken (c .at)) (c .tag))))
   tag-from =
-      subst (λ (v : Forest). From (at + 1) (following (kidsOf (kidsOf v)))) (w .found .drawn .draws (w .found .hits) at)
-      (tag-behind at (drop at src) (ap hit (sym (w .found .drawn .reads .is)) ∙ w .found .hits))
+      subst (λ (v : Forest). From (at + 1) (following (kidsOf (kidsOf v)))) (found-drawn (w .found) .draws (w .found .hits) at)
+      (tag-behind at (drop at src) (found-hit (w .found)))
 
   abbrev HeldBy : Tag → Type 0
   HeldBy y = Held at (at + taken (c .at)) (drawTag at (drop at src) (taken (c .at)) y)
@@ -159,7 +160,8 @@ module _ {src : List ℕ} {at : ℕ} {c : TagMatch} {n : Walk} (w : Ready tags s
   pub tag-range-ready : {x : TagRange} → c .tag ≡ Range x → PlacedRange src at len x n
   tag-range-ready {x} e =
       subst (λ (k : ℕ). PlacedRange src at k x n) (sym el)
-      (range-placed src at (taken (c .at)) n (w .came) (found-some (w .found)) (found-in (w .found)) x (subst HeldBy e tag-held)
+      (range-placed src at (taken (c .at)) n (w .came) (found-some (w .found)) (found-in (w .found)) x
+      (subst (SoundTag (drop at src)) e (w .found .answered .sound (w .found .hits))) (subst HeldBy e tag-held)
       (subst (λ (y : Tag). From (at + 1) (following (kidsOf (drawTag at (drop at src) (taken (c .at)) y)))) e tag-from))
 
   pub tag-other-ready : {x : TagOther} → c .tag ≡ Other x → Placed src at len (x .id) n
@@ -168,11 +170,11 @@ module _ {src : List ℕ} {at : ℕ} {c : TagMatch} {n : Walk} (w : Ready tags s
       (other-placed src at (taken (c .at)) n (w .came) (found-some (w .found)) (found-in (w .found)) x (subst HeldBy e tag-held))
 
   module _ {r : Walk} {a b : Lent → Lent} where
-    pub tag-value-done : {v : TagValue} → c .tag ≡ Value v → Goes (valueItems src 1 at len v) src (at + len) n r a b → GoesOne tags src at c n r a b
-    tag-value-done {v} e g = one-done tags el (λ xs. ap (λ (k : ℕ). valueItems src 1 at k v) el ∙ sym (tag-value src at c v e)) g
+    pub tag-value-done : {v : TagValue} → c .tag ≡ Value v → Goes (valueItems src 1 at len v) src (at + len) n r a b → GoesOne tag-form src at c n r a b
+    tag-value-done {v} e g = one-done {z = tag-form} el (λ xs. ap (λ (k : ℕ). valueItems src 1 at k v) el ∙ sym (tag-value src at c v e)) g
 
-    pub tag-range-done : {x : TagRange} → c .tag ≡ Range x → Goes (rangeItems src at len x) src (at + len) n r a b → GoesOne tags src at c n r a b
-    tag-range-done {x} e g = one-done tags el (λ xs. ap (λ (k : ℕ). rangeItems src at k x) el ∙ sym (tag-range src at c x e)) g
+    pub tag-range-done : {x : TagRange} → c .tag ≡ Range x → Goes (rangeItems src at len x) src (at + len) n r a b → GoesOne tag-form src at c n r a b
+    tag-range-done {x} e g = one-done {z = tag-form} el (λ xs. ap (λ (k : ℕ). rangeItems src at k x) el ∙ sym (tag-range src at c x e)) g
 
-    pub tag-other-done : {x : TagOther} → c .tag ≡ Other x → Goes (otherItems src at len x) src (at + len) n r a b → GoesOne tags src at c n r a b
-    tag-other-done {x} e g = one-done tags el (λ xs. ap (λ (k : ℕ). otherItems src at k x) el ∙ sym (tag-other src at c x e)) g
+    pub tag-other-done : {x : TagOther} → c .tag ≡ Other x → Goes (otherItems src at len x) src (at + len) n r a b → GoesOne tag-form src at c n r a b
+    tag-other-done {x} e g = one-done {z = tag-form} el (λ xs. ap (λ (k : ℕ). otherItems src at k x) el ∙ sym (tag-other src at c x e)) g

@@ -4,10 +4,9 @@ use mathlib.Core.Path.{_≡_, refl, ap, sym, _∙_}
 use mathlib.Core.List.{List, [], _∷_, _++_, append-nil}
 use mathlib.Core.Bool.{true}
 use lib.ListN.{length, drop}
-use Rattle.meaning.specs.declared.SourceLocation.{SourceLocation}
 use Rattle.meaning.specs.Choice.{pick}
 use Rattle.meaning.specs.Rules.{Rule, is}
-use Rattle.meaning.specs.Peg.{run, bytewise, hit, taken}
+use Rattle.meaning.specs.Peg.{bytewise, taken}
 use Rattle.meaning.specs.Forest.{Forest, nil, tree, _⊕_}
 use Rattle.meaning.specs.Pdl.{identifier, alpha, enum-value, enum-value-list, enum-range, enum-other, enum-tag}
 use Rattle.meaning.specs.Places.{placeAt}
@@ -24,14 +23,13 @@ use Rattle.spans.specs.declared.Tag.{Tag}
 use Rattle.spans.specs.declared.Tag.the-variants.{Value, Range, Other}
 use Rattle.spans.specs.declared.TagMatch.{TagMatch}
 use Rattle.spans.specs.Drawn.{leafAt, listAt, drawTag}
+use Rattle.spans.specs.Answers.{MatchedPart, Tagged, Enumerated}
 use Rattle.walk.specs.declared.Door.the-variants.{Write}
 use Rattle.walk.specs.declared.Number.{Number}
 use Rattle.walk.specs.declared.Walk.{Walk}
 use Rattle.walk.specs.Terms.{numberAt, noNumber, spanNumber, integerItems, spanName, tagWords, Inside}
 use Rattle.walk.specs.State.{At}
 use Rattle.walk.specs.Lists.{Form, Found, listNodes, stop}
-use Rattle.tag_rows.specs.declared.Braces.{Braces}
-use Rattle.tag_rows.specs.declared.Braces.the-variants.{Empty, From}
 
 -- ---- one tag of n bytes at o, from its spans
 -- its row, with its kind, its name, its numbers and how many rows follow that are its own
@@ -117,24 +115,28 @@ unfolding parse-enum-tag
 one-tag src o n kids w = refl
 
 -- the values inside a range, and the tags of an enum
-abbrev pub values : Form TagMatch
-values =
+abbrev pub value-form : Form TagMatch
+value-form =
     record {
       peg = enum-value;
       match = λ c. c .at;
       draw = λ c t o. drawTag o t (taken (c .at)) (c .tag);
+      Answered = Tagged enum-value;
+      drawn = λ t c h. h .drawn;
       items = λ src xs w. valuesItems src w;
       some = eats-value;
       none = λ src xs. each-none Rule.enum-value (λ q. parse-enum-value src 4 q);
       one = λ src xs c t o w. one-inside src o t (taken (c .at)) (c .tag) w;
     }
 
-abbrev pub tags : Form TagMatch
-tags =
+abbrev pub tag-form : Form TagMatch
+tag-form =
     record {
       peg = enum-tag;
       match = λ c. c .at;
       draw = λ c t o. tree Rule.enum-tag o (taken (c .at)) (drawTag o t (taken (c .at)) (c .tag)) nil;
+      Answered = Enumerated enum-tag;
+      drawn = λ t c h. h .drawn;
       items = λ src xs w. each Rule.enum-tag (λ q. parse-enum-tag src q) w;
       some = eats-tag;
       none = λ src xs. each-none Rule.enum-tag (λ q. parse-enum-tag src q);
@@ -146,27 +148,27 @@ module _ (src : List ℕ) (o : ℕ) (c : TagMatch) where
   abbrev pub ownItems : Form TagMatch → List Item
   ownItems z = z .items src [] (z .draw c (drop o src) o)
 
-  pub inside-value : (v : TagValue) → c .tag ≡ Value v → ownItems values ≡ valueItems src 4 o (taken (c .at)) v
+  pub inside-value : (v : TagValue) → c .tag ≡ Value v → ownItems value-form ≡ valueItems src 4 o (taken (c .at)) v
   unfolding each
   inside-value v e = rw e (append-nil _ ∙ value-items src 4 o (taken (c .at)) v nil)
 
-  pub inside-range : (x : TagRange) → c .tag ≡ Range x → ownItems values ≡ []
+  pub inside-range : (x : TagRange) → c .tag ≡ Range x → ownItems value-form ≡ []
   unfolding each
   inside-range x e = rw e refl
 
-  pub inside-other : (x : TagOther) → c .tag ≡ Other x → ownItems values ≡ []
+  pub inside-other : (x : TagOther) → c .tag ≡ Other x → ownItems value-form ≡ []
   unfolding each
   inside-other x e = rw e refl
 
-  pub tag-value : (v : TagValue) → c .tag ≡ Value v → ownItems tags ≡ valueItems src 1 o (taken (c .at)) v
+  pub tag-value : (v : TagValue) → c .tag ≡ Value v → ownItems tag-form ≡ valueItems src 1 o (taken (c .at)) v
   unfolding each parse-enum-tag
   tag-value v e = rw e (append-nil _ ∙ append-nil _ ∙ append-nil _ ∙ append-nil _ ∙ value-items src 1 o (taken (c .at)) v nil)
 
-  pub tag-range : (x : TagRange) → c .tag ≡ Range x → ownItems tags ≡ rangeItems src o (taken (c .at)) x
+  pub tag-range : (x : TagRange) → c .tag ≡ Range x → ownItems tag-form ≡ rangeItems src o (taken (c .at)) x
   unfolding each parse-enum-tag
   tag-range x e = rw e (append-nil _ ∙ append-nil _ ∙ append-nil _ ∙ range-items src o (taken (c .at)) x nil)
 
-  pub tag-other : (x : TagOther) → c .tag ≡ Other x → ownItems tags ≡ otherItems src o (taken (c .at)) x
+  pub tag-other : (x : TagOther) → c .tag ≡ Other x → ownItems tag-form ≡ otherItems src o (taken (c .at)) x
   unfolding each parse-enum-tag
   tag-other x e = rw e (append-nil _ ∙ append-nil _ ∙ other-items src o (taken (c .at)) x nil)
 
@@ -182,11 +184,10 @@ pub record PlacedValue (src : List ℕ) (at len : ℕ) (v : TagValue) (n : Walk)
   pub place : Placed src at len (v .id) n
   pub value : Inside len (v .value)
 
--- values that match where a range's list is stand behind its first byte, and end inside its bytes
+-- values are matched where a range's list says, which begins behind its first byte; and they end inside its bytes
 pub record Braced (src : List ℕ) (at len : ℕ) (list : SpanPart) : Type 0 where
-  pub within : at + len ≤ length src
-  pub inside : (g : Span) → list ≡ Here g → hit (run (bytewise enum-value) (drop (at + g .start) src)) ≡ true
-      → (0 < g .start) × (stop values src (at + g .start) ≤ at + len)
+  pub stands : MatchedPart enum-value-list (drop at src) list
+  pub inside : (g : Span) → list ≡ Here g → (0 < g .start) × (stop value-form src (at + g .start) ≤ at + len)
 
 pub record PlacedRange (src : List ℕ) (at len : ℕ) (x : TagRange) (n : Walk) : Type 0 where
   pub place : Placed src at len (x .id) n
@@ -199,23 +200,7 @@ pub record Ready (z : Form TagMatch) (src : List ℕ) (at : ℕ) (m : TagMatch) 
   pub came : At src at n
   pub found : Found z src at m
 
--- ---- what it comes to
--- the values in a range's braces: from i on, c first; or none
-pub record Filled (src : List ℕ) (at : ℕ) (list : SpanPart) (i : ℕ) (c : TagMatch) : Type 0 where
-  pub span : Span
-  pub here : list ≡ Here span
-  pub begin : i ≡ at + span .start
-  pub found : Found values src i c
-
-abbrev pub Begins : List ℕ → ℕ → SpanPart → Braces → Type 0
-Begins src at list Empty = innerItems src at list ≡ []
-Begins src at list (From i c) = Filled src at list i c
-
 -- how many rows the values from `at` on have: a walk that writes is told, and nothing is written
 pub record Counted (src : List ℕ) (at : ℕ) (n : Walk) (k : ℕ) (t t' : List ℕ) : Type 0 where
-  pub rows : n .door ≡ Write → k ≡ count Table.tags (valuesItems src (listNodes values src at))
+  pub rows : n .door ≡ Write → k ≡ count Table.tags (valuesItems src (listNodes value-form src at))
   pub same : t' ≡ t
-
--- the same walk at another place
-abbrev pub placed : SourceLocation → Walk → Walk
-placed p n = record { door = n .door; counts = n .counts; place = n .place; reason = n .reason; here = p }

@@ -3,9 +3,9 @@ ghost use Prim.Native.Nat.{_+_};
 ghost use mathlib.Core.Path.{_≡_};
 ghost use mathlib.Core.List.{[], _∷_};
 ghost use Rattle.meaning.specs.Tables.{Table, row};
-ghost use Rattle.walk.specs.State.{lend, Goes};
+ghost use Rattle.walk.specs.State.{lend, placed, Goes};
 ghost use Rattle.walk.specs.Lists.{GoesOne, GoesAll, GoesList};
-ghost use Rattle.tag_rows.specs.Tags.{values, tags, rowWords, valueItems, otherItems, rangeItems, Placed, PlacedValue, PlacedRange, Ready, Braced, Begins, Counted, placed};
+ghost use Rattle.tag_rows.specs.Tags.{value-form, tag-form, rowWords, valueItems, otherItems, rangeItems, Placed, PlacedValue, PlacedRange, Ready, Counted};
 use meaning::SourceLocation;
 use spans::Part;
 use spans::Span;
@@ -79,8 +79,8 @@ fn put_other(s: &[u8], at: usize, len: usize, x: TagOther, n: Walk, t: &mut [u64
 
 // One value inside a range's braces.
 fn put_inner(s: &[u8], at: usize, m: TagMatch, n: Walk, t: &mut [u64]) -> Walk
-    requires { ⌜ Ready values (now s) at m n ⌝ }
-    ensures { λ r. ⌜ GoesOne values (now (s .entry)) at m n r (lend Table.tags (now (t .entry))) (lend Table.tags (now (t .exit))) ⌝ }
+    requires { ⌜ Ready value-form (now s) at m n ⌝ }
+    ensures { λ r. ⌜ GoesOne value-form (now (s .entry)) at m n r (lend Table.tags (now (t .entry))) (lend Table.tags (now (t .exit))) ⌝ }
 {
     let end = m.at;
     let len = grammar::taken(end);
@@ -95,22 +95,20 @@ fn put_inner(s: &[u8], at: usize, m: TagMatch, n: Walk, t: &mut [u64]) -> Walk
 // The values inside a range's braces from `at` on, whose first one is handed on.
 // Rust: parse_enum_value_list_opt.
 fn put_values(s: &[u8], at: usize, first: TagMatch, n: Walk, t: &mut [u64]) -> Walk
-    requires { ⌜ Ready values (now s) at first n ⌝ }
-    ensures { λ r. ⌜ GoesAll values (now (s .entry)) at n r (lend Table.tags (now (t .entry))) (lend Table.tags (now (t .exit))) ⌝ }
+    requires { ⌜ Ready value-form (now s) at first n ⌝ }
+    ensures { λ r. ⌜ GoesAll value-form (now (s .entry)) at n r (lend Table.tags (now (t .entry))) (lend Table.tags (now (t .exit))) ⌝ }
 {
     let mut i = at;
     let mut m = n;
     let mut c = first;
     loop {
         m = put_inner(s, i, c, m, t);
-        let end = c.at;
-        let j = i + grammar::taken(end);
-        let comma = walk::comma(&s[j..]);
-        let more = grammar::took(comma);
-        if more {} else {
+        let item = c.at;
+        let turn = walk::turn_behind(s, i, item);
+        if turn.more {} else {
             return m;
         }
-        i = j + grammar::taken(comma);
+        i = turn.next;
         c = tags::enum_value(&s[i..]);
         let next = c.at;
         let there = grammar::took(next);
@@ -120,37 +118,9 @@ fn put_values(s: &[u8], at: usize, first: TagMatch, n: Walk, t: &mut [u64]) -> W
     }
 }
 
-// The values inside a range's braces: where they begin with the first of them, or none.
-pub enum Braces {
-    Empty,
-    From(usize, TagMatch),
-}
-
-// What stands in the braces whose list a range of len bytes at `at` says.
-fn braces_of(s: &[u8], at: usize, len: usize, list: Part) -> Braces
-    requires { ⌜ Braced (now s) at len list ⌝ }
-    ensures { λ r. ⌜ Begins (now (s .entry)) at list r ⌝ }
-{
-    let Part::Here(g) = list else {
-        return Braces::Empty;
-    };
-    let start = g.start;
-    if len < start {
-        return Braces::Empty;
-    }
-    let i = at + start;
-    let first = tags::enum_value(&s[i..]);
-    let end = first.at;
-    let there = grammar::took(end);
-    if there {} else {
-        return Braces::Empty;
-    }
-    Braces::From(i, first)
-}
-
 // How many rows the values from `at` on have. Only a walk that writes asks: one that counts meets them but once.
 fn count_values(s: &[u8], at: usize, first: TagMatch, n: Walk, t: &mut [u64]) -> usize
-    requires { ⌜ Ready values (now s) at first n ⌝ }
+    requires { ⌜ Ready value-form (now s) at first n ⌝ }
     ensures { λ r. ⌜ Counted (now (s .entry)) at n r (now (t .entry)) (now (t .exit)) ⌝ }
 {
     let door = n.door;
@@ -189,10 +159,11 @@ fn put_range(s: &[u8], at: usize, len: usize, x: TagRange, n: Walk, t: &mut [u64
     let e = walk::terms::integer_at(s, at + high.start, high.len);
     let m = walk::note(walk::note(n, v), e);
     let list = x.tags;
-    let inside = braces_of(s, at, len, list);
-    let Braces::From(i, first) = inside else {
+    let Part::Here(g) = list else {
         return put_row(s, at, len, 2, x.id, v, e, 0, m, t);
     };
+    let i = at + g.start;
+    let first = tags::enum_value(&s[i..]);
     let inner = count_values(s, i, first, m, t);
     let r = put_row(s, at, len, 2, x.id, v, e, inner, m, t);
     put_values(s, i, first, back(r, m.here), t)
@@ -201,8 +172,8 @@ fn put_range(s: &[u8], at: usize, len: usize, x: TagRange, n: Walk, t: &mut [u64
 // One tag of an enum, by its kind.
 // Rust: parse_enum_tag.
 fn put_one(s: &[u8], at: usize, m: TagMatch, n: Walk, t: &mut [u64]) -> Walk
-    requires { ⌜ Ready tags (now s) at m n ⌝ }
-    ensures { λ r. ⌜ GoesOne tags (now (s .entry)) at m n r (lend Table.tags (now (t .entry))) (lend Table.tags (now (t .exit))) ⌝ }
+    requires { ⌜ Ready tag-form (now s) at m n ⌝ }
+    ensures { λ r. ⌜ GoesOne tag-form (now (s .entry)) at m n r (lend Table.tags (now (t .entry))) (lend Table.tags (now (t .exit))) ⌝ }
 {
     let end = m.at;
     let len = grammar::taken(end);
@@ -217,27 +188,31 @@ fn put_one(s: &[u8], at: usize, m: TagMatch, n: Walk, t: &mut [u64]) -> Walk
 // The tags of an enum from `at` on, whose first one is handed on.
 // Rust: parse_enum_tag_list.
 pub fn put_tags(s: &[u8], at: usize, first: TagMatch, n: Walk, t: &mut [u64]) -> Walked
-    requires { ⌜ Ready tags (now s) at first n ⌝ }
-    ensures { λ r. ⌜ GoesList tags (now (s .entry)) at n r (lend Table.tags (now (t .entry))) (lend Table.tags (now (t .exit))) ⌝ }
+    requires { ⌜ Ready tag-form (now s) at first n ⌝ }
+    ensures { λ r. ⌜ GoesList tag-form (now (s .entry)) at n r (lend Table.tags (now (t .entry))) (lend Table.tags (now (t .exit))) ⌝ }
 {
     let mut i = at;
     let mut m = n;
     let mut c = first;
     loop {
         m = put_one(s, i, c, m, t);
-        let end = c.at;
-        let j = i + grammar::taken(end);
-        let comma = walk::comma(&s[j..]);
-        let more = grammar::took(comma);
-        if more {} else {
-            return Walked { walk: m, end: j };
+        let item = c.at;
+        let turn = walk::turn_behind(s, i, item);
+        if turn.more {} else {
+            return Walked {
+                walk: m,
+                end: turn.end,
+            };
         }
-        i = j + grammar::taken(comma);
+        i = turn.next;
         c = tags::enum_tag(&s[i..]);
         let next = c.at;
         let there = grammar::took(next);
         if there {} else {
-            return Walked { walk: m, end: j };
+            return Walked {
+                walk: m,
+                end: turn.end,
+            };
         }
     }
 }

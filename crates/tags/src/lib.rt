@@ -1,11 +1,11 @@
 // Tags of an enum: `id = value`, `id = start .. end` with values in braces or none, and `id = ..`; alone and in lists.
-ghost use Rattle.meaning.specs.Rules.{Rule};
-ghost use Rattle.meaning.specs.Peg.{seq, star, opt, taken};
-ghost use Rattle.meaning.specs.Forest.{nil, tree};
+ghost use mathlib.Core.Path.{_≡_};
+ghost use Rattle.meaning.specs.Choice.{pick};
+ghost use Rattle.meaning.specs.Peg.{seq, star, hit};
 ghost use Rattle.meaning.specs.Pdl.{text, _~_, skip, enum-value, enum-value-list, enum-range, enum-other, enum-tag, enum-tag-list};
 ghost use Rattle.grammar.specs.Matching.{Within, Reads, Steps};
-ghost use Rattle.grammar.specs.Drawing.{Draws, Follows};
-ghost use Rattle.spans.specs.Drawn.{listAt, drawTag};
+ghost use Rattle.spans.specs.Answers.{Tagged, Enumerated, noTag};
+ghost use Rattle.tags.specs.Fronts.{Front, InBraces};
 use grammar::joined;
 use grammar::settle;
 use lexis::blanks::next_literal;
@@ -16,6 +16,7 @@ use lexis::tokens::then_identifier;
 use lexis::tokens::then_integer;
 use meaning::Match;
 use spans::Part;
+use spans::Span;
 use spans::Tag;
 use spans::TagMatch;
 use spans::TagOther;
@@ -24,21 +25,49 @@ use spans::TagValue;
 use spans::between;
 use spans::kept_part;
 
-// A name and its value.
-pub fn enum_value(s: &[u8]) -> TagMatch
-    ensures { λ r. ⌜ Draws enum-value (now (s .entry)) (r .at) (λ o. drawTag o (now (s .entry)) (taken (r .at)) (r .tag)) ⌝ }
+// A tag with its match, where that took; else none.
+fn tagged(at: Match, tag: Tag) -> TagMatch
+    ensures { λ r. ⌜ (r .at ≡ at) × (r .tag ≡ pick (hit at) tag noTag) ⌝ }
+{
+    let there = grammar::took(at);
+    if there {
+        return TagMatch { at, tag };
+    }
+    let id = Span { start: 0, len: 0 };
+    TagMatch {
+        at,
+        tag: Tag::Other(TagOther { id }),
+    }
+}
+
+// The front that all tags share: its name, and where the blanks behind its `=` end.
+struct Label {
+    at: Match,
+    id: Span,
+}
+
+// A name, `=`, and blanks.
+fn front(s: &[u8]) -> Label
+    ensures { λ r. ⌜ Front (now (s .entry)) (r .at) (r .id) ⌝ }
 {
     let first = Match::Took(0, 0);
     let a = then_identifier(s, first);
-    let b = then_blanks(s, next_literal(s, a, b"="));
-    let at = then_integer(s, b);
-    TagMatch {
-        at,
-        tag: Tag::Value(TagValue {
-            id: between(first, a),
-            value: between(b, at),
-        }),
+    Label {
+        at: then_blanks(s, next_literal(s, a, b"=")),
+        id: between(first, a),
     }
+}
+
+// A name and its value.
+pub fn enum_value(s: &[u8]) -> TagMatch
+    ensures { λ r. ⌜ Tagged enum-value (now (s .entry)) r ⌝ }
+{
+    let label = front(s);
+    let b = label.at;
+    let id = label.id;
+    let at = then_integer(s, b);
+    let value = between(b, at);
+    tagged(at, Tag::Value(TagValue { id, value }))
 }
 
 // A name and its value, where m ends.
@@ -105,8 +134,7 @@ struct Braces {
 // Values in braces, or nothing, where m ends.
 fn then_braces(s: &[u8], m: Match) -> Braces
     requires { ⌜ Within m (now s) ⌝ }
-    ensures { λ r.
-        ⌜ Follows m (opt (text "{" ~ enum-value-list ~ text "}")) (now (s .entry)) (r .at) (λ o. listAt enum-value-list o (now (s .entry)) (r .tags)) ⌝ }
+    ensures { λ r. ⌜ InBraces m (now (s .entry)) (r .at) (r .tags) ⌝ }
 {
     let a = then_blanks(s, then_literal(s, m, b"{"));
     let list = then_enum_value_list(s, a);
@@ -120,68 +148,70 @@ fn then_braces(s: &[u8], m: Match) -> Braces
 
 // A name, its first and last value, and values in braces; without these the range ends after the blanks.
 pub fn enum_range(s: &[u8]) -> TagMatch
-    ensures { λ r. ⌜ Draws enum-range (now (s .entry)) (r .at) (λ o. drawTag o (now (s .entry)) (taken (r .at)) (r .tag)) ⌝ }
+    ensures { λ r. ⌜ Tagged enum-range (now (s .entry)) r ⌝ }
 {
-    let first = Match::Took(0, 0);
-    let a = then_identifier(s, first);
-    let b = then_blanks(s, next_literal(s, a, b"="));
+    let label = front(s);
+    let b = label.at;
+    let id = label.id;
     let low = then_integer(s, b);
+    let start = between(b, low);
     let c = then_blanks(s, next_literal(s, low, b".."));
     let high = then_integer(s, c);
+    let end = between(c, high);
     let inner = then_braces(s, then_blanks(s, high));
     let at = inner.at;
     let tags = inner.tags;
-    TagMatch {
-        at,
-        tag: Tag::Range(TagRange {
-            id: between(first, a),
-            start: between(b, low),
-            end: between(c, high),
-            tags,
-        }),
-    }
+    let range = TagRange {
+        id,
+        start,
+        end,
+        tags,
+    };
+    tagged(at, Tag::Range(range))
 }
 
 // A name for all other values.
 pub fn enum_other(s: &[u8]) -> TagMatch
-    ensures { λ r. ⌜ Draws enum-other (now (s .entry)) (r .at) (λ o. drawTag o (now (s .entry)) (taken (r .at)) (r .tag)) ⌝ }
+    ensures { λ r. ⌜ Tagged enum-other (now (s .entry)) r ⌝ }
 {
-    let first = Match::Took(0, 0);
-    let a = then_identifier(s, first);
-    let b = next_literal(s, a, b"=");
-    let at = next_literal(s, b, b"..");
-    TagMatch {
-        at,
-        tag: Tag::Other(TagOther {
-            id: between(first, a),
-        }),
-    }
+    let label = front(s);
+    let b = label.at;
+    let id = label.id;
+    let at = then_literal(s, b, b"..");
+    tagged(at, Tag::Other(TagOther { id }))
 }
 
-// A tag: a range, else a value, else the name for all others, each tried from the start.
+// A tag: a range, else a value, else the name for all others. What they share is matched once: a range that misses behind
+// its first integer is a value, and where no integer stands only the name for all others is left.
 pub fn enum_tag(s: &[u8]) -> TagMatch
-    ensures { λ r.
-        ⌜ Draws enum-tag (now (s .entry)) (r .at) (λ o. tree Rule.enum-tag o (taken (r .at)) (drawTag o (now (s .entry)) (taken (r .at)) (r .tag)) nil) ⌝ }
+    ensures { λ r. ⌜ Enumerated enum-tag (now (s .entry)) r ⌝ }
 {
-    let range = enum_range(s);
-    let x = range.at;
-    let Match::Missed(f) = x else {
-        return range;
-    };
-    let value = enum_value(s);
-    let y = value.at;
-    let at = joined(s, 0, f, y);
-    let tag = value.tag;
-    let Match::Missed(g) = at else {
-        return TagMatch { at, tag };
-    };
-    let other = enum_other(s);
-    let z = other.at;
-    let tag = other.tag;
-    TagMatch {
-        at: joined(s, 0, g, z),
-        tag,
+    let label = front(s);
+    let b = label.at;
+    let id = label.id;
+    let low = then_integer(s, b);
+    if let Match::Missed(_) = low {
+        let at = then_literal(s, settle(s, b, low), b"..");
+        return tagged(at, Tag::Other(TagOther { id }));
     }
+    let value = between(b, low);
+    let c = then_blanks(s, next_literal(s, low, b".."));
+    let high = then_integer(s, c);
+    if let Match::Missed(_) = high {
+        let at = settle(s, low, high);
+        return tagged(at, Tag::Value(TagValue { id, value }));
+    }
+    let end = between(c, high);
+    let inner = then_braces(s, then_blanks(s, high));
+    let at = inner.at;
+    let tags = inner.tags;
+    let range = TagRange {
+        id,
+        start: value,
+        end,
+        tags,
+    };
+    tagged(at, Tag::Range(range))
 }
 
 // A tag, where m ends.

@@ -1,14 +1,20 @@
 -- What the walk's small functions return, one law for each way out.
-use Prim.Native.Nat.{ℕ, zero, suc, _+_, _-_, _^_, _≤_, _<_}
+use Prim.Native.Nat.{ℕ, zero, suc, _+_, _-_, _≤_, _<_}
 use native.Mathlib.Omega.{arith}
 use mathlib.Core.Path.{_≡_, refl, ap, subst, sym, _∙_}
 use mathlib.Core.List.{List, [], _∷_}
+use mathlib.Core.Bool.{Bool}
 use mathlib.Core.Logic.{⊎-elim}
 use borrow.Author.Tests.{eq-eqb, ne-eqb}
 use lib.ListN.{length, getD, set, take, drop, length-set}
 use lib.Seq.{getD-set-same, getD-set-other}
 use types.Run.{OneOf}
 use denote.Enum.Declared.{tagOf}
+use Rattle.meaning.specs.declared.Match.{Match}
+use Rattle.meaning.specs.Peg.{hit, taken}
+use Rattle.grammar.specs.Matching.{Reads}
+use Rattle.grammar.specs.Steps.{at}
+use Rattle.grammar.specs.Bounds.{took-inside}
 use Rattle.meaning.specs.declared.Converted.{Converted}
 use Rattle.meaning.specs.declared.Converted.the-variants.{Value, Empty, BadDigit, TooLarge}
 use Rattle.meaning.proofs.Converted.{the-type}
@@ -28,6 +34,8 @@ use Rattle.walk.specs.declared.Door.{Door}
 use Rattle.walk.specs.declared.Door.the-variants.{Count, Write}
 use Rattle.walk.specs.State.{noted, worse, left, Wrote, Near, Stands, At, same, Came, Knows, Put}
 use Rattle.walk.specs.Steps.{wrote-none, goes-none}
+use Rattle.walk.specs.Turns.{comma}
+use Rattle.walk.specs.Nexts.{Turned}
 use Rattle.walk.specs.Ready.{offset-of}
 use Rattle.walk.specs.Terms.{numberAt, unquotedName, InsidePart, InsideOperand, InsideSize, InsideTarget}
 
@@ -54,6 +62,20 @@ pub number-good : (src : List ℕ) (o n : ℕ) (c : Converted) (v : ℕ) → c �
 unfolding numberAt
 number-good src o n c v e q =
     ap (λ (x : Converted). record { found = 1; place = o; reason = reasonOf x; value = valueOf x }) (sym q ∙ e ∙ ap convert (part-is src o n))
+
+-- ---- the turn behind an item: l bytes are its own, and k is the comma
+module _ (src : List ℕ) (i : ℕ) (m : Match) (w : i + taken m ≤ length src) {l : ℕ} (el : l ≡ taken m) {k : Match}
+    (r : Reads comma (take (length src - (i + l)) (drop (i + l) src)) k) where
+  pub comma-in : i + l + taken k ≤ length src
+  comma-in = omega (arith, el, took-inside src (i + l) (omega (arith, el, w)) (at (i + l) src r))
+
+  pub turned : {b : Bool} {e : ℕ} → b ≡ hit k → e ≡ taken k → Turned src i m (record { end = i + l; more = b; next = i + l + e })
+  turned eb ee =
+      record {
+        end = ap (λ (y : ℕ). i + y) el;
+        more = eb ∙ ap hit (at (i + l) src r .is);
+        next = ap (λ (y : ℕ). i + l + y) (ee ∙ ap taken (at (i + l) src r .is));
+      }
 
 -- ---- noting
 module _ (n : Walk) (p r : ℕ) where

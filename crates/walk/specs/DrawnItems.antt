@@ -1,14 +1,12 @@
 -- What the Rust's walk makes of the nodes that a matcher's answer draws: the items, in the words of the answer.
-use Prim.Native.Nat.{ℕ, zero, suc, _+_}
-use mathlib.Core.Path.{_≡_, refl, ap, _∙_}
-use mathlib.Core.List.{List, [], _∷_, _++_}
-use mathlib.Core.Bool.{Bool, true, false}
-use lib.ListN.{take, drop}
+use Prim.Native.Nat.{ℕ, _+_}
+use mathlib.Core.Path.{_≡_, refl}
+use mathlib.Core.List.{List, [], _∷_}
 use Rattle.meaning.specs.Rules.{Rule}
-use Rattle.meaning.specs.Forest.{Forest, nil, tree, _⊕_}
+use Rattle.meaning.specs.Forest.{Forest, _⊕_}
 use Rattle.meaning.specs.Places.{placeAt}
-use Rattle.meaning.specs.Tables.{Table, Item, int, row, count}
-use Rattle.meaning.specs.Walk.{Part, node, part, absent, number, numbers, each, constraint-number, constraint-row, tag-row, parse-enum-value, parse-enum-range, parse-enum-other, parse-enum-tag, Desc, described, describe}
+use Rattle.meaning.specs.Tables.{Table, row}
+use Rattle.meaning.specs.Walk.{node, constraint-number, constraint-row}
 use Rattle.spans.specs.declared.Span.{Span}
 use Rattle.spans.specs.declared.Operand.{Operand}
 use Rattle.spans.specs.declared.Operand.the-variants.{Identifier, Integer}

@@ -20,7 +20,7 @@ pub operand-inside : (o n : ℕ) (v : Operand) → Held o (o + n) (drawOperand o
 operand-inside o n (Identifier s) h = span-inside Rule.identifier o n s h
 operand-inside o n (Integer s) h = span-inside Rule.integer o n s h
 
-pub wider-operand : (m n : ℕ) (v : Operand) → m ≤ n → InsideOperand m v → InsideOperand n v
+wider-operand : (m n : ℕ) (v : Operand) → m ≤ n → InsideOperand m v → InsideOperand n v
 wider-operand m n (Identifier s) e h = omega (arith, e, h)
 wider-operand m n (Integer s) e h = omega (arith, e, h)
 

@@ -1,6 +1,8 @@
 pub mod State
 pub mod Terms
 pub mod Steps
+pub mod Doors
+pub mod Totals
 pub mod DrawnItems
 pub mod Ready
 pub mod Turns
@@ -9,4 +11,6 @@ pub mod Ends
 pub mod Insides
 pub mod Nexts
 pub mod Lists
+pub mod PartLists
 pub mod Sounds
+pub mod Settled

@@ -1,33 +1,36 @@
 -- A list as the walk goes over it, item by item: the frame of the loop, for any item.
 use Prim.Native.Nat.{ℕ, _+_, _-_, _≤_, _<_}
 use native.Mathlib.Omega.{arith}
-use mathlib.Core.Path.{_≡_, refl, ap, ap₂, subst, sym, _∙_}
-use mathlib.Core.List.{List, [], _∷_, _++_, append-assoc, append-nil}
+use mathlib.Core.Path.{_≡_, ap, ap₂, subst, sym, _∙_}
+use mathlib.Core.List.{List, [], _++_, append-assoc, append-nil}
 use mathlib.Core.Bool.{true, false}
 use lib.ListN.{length, take, drop}
 use Rattle.meaning.specs.declared.Match.{Match}
 use Rattle.meaning.specs.Peg.{Peg, run, bytewise, hit, taken}
 use Rattle.meaning.specs.Forest.{Forest, nil, _⊕_, nodes}
 use Rattle.meaning.specs.Tables.{Item, Lent}
-use Rattle.grammar.specs.Matching.{Reads, eats}
+use Rattle.grammar.specs.Matching.{eats}
 use Rattle.grammar.specs.Stars.{hit-pos}
 use Rattle.grammar.specs.Steps.{rest-is}
 use Rattle.grammar.specs.Drawing.{Draws}
 use Rattle.grammar.specs.Bounds.{took-inside}
+use Rattle.walk.specs.declared.Turn.{Turn}
 use Rattle.walk.specs.declared.Walk.{Walk}
 use Rattle.walk.specs.declared.Walked.{Walked}
-use Rattle.walk.specs.State.{Wrote, At, Tallied}
+use Rattle.walk.specs.State.{Wrote, At, Goes, Tallied}
 use Rattle.walk.specs.Steps.{wrote-none, wrote-then, wrote-as, tallied-then, at-on}
-use Rattle.walk.specs.Turns.{comma, rest, past, Over, past-from, first-item}
+use Rattle.walk.specs.Turns.{rest, past, Over, first-item}
 use Rattle.walk.specs.Listing.{inside}
-use Rattle.walk.specs.Nexts.{FoundAt, comma-within, found, none-comma, none-item}
+use Rattle.walk.specs.Nexts.{Turned, turn-next-in, Next, next, none-comma, none-item}
 
--- What a list is of: its expression, a matcher's answer with its match and the nodes that it draws of a text that stands at an
--- offset, and what the walk meets in some nodes, by the items before them. It goes over one item at a time.
-pub record Form (A : Type 0) : Type 0 where
+-- What a list is of: its expression, what its matcher promises of an answer, the answer's match and the nodes that it draws of a
+-- text that stands at an offset, and what the walk meets in some nodes, by the items before them. It goes over one item at a time.
+pub record Form (A : Type 0) : Type 1 where
   pub peg : Peg
   pub match : A → Match
   pub draw : A → List ℕ → ℕ → Forest
+  pub Answered : List ℕ → A → Type 0
+  pub drawn : (t : List ℕ) (c : A) → Answered t c → Draws peg t (match c) (draw c t)
   pub items : List ℕ → List Item → Forest → List Item
   pub some : eats (bytewise peg) ≡ true
   pub none : (src : List ℕ) (xs : List Item) → items src xs nil ≡ []
@@ -50,7 +53,7 @@ module _ {A : Type 0} (z : Form A) (src : List ℕ) where
   pub record Found (i : ℕ) (c : A) : Type 0 where
     pub within : i ≤ length src
     pub hits : hit (z .match c) ≡ true
-    pub drawn : Draws (z .peg) (drop i src) (z .match c) (z .draw c (drop i src))
+    pub answered : z .Answered (drop i src) c
 
   -- the walk goes over the answer c at i, whatever items stand before it; and over the list at `at`
   pub record GoesOne (i : ℕ) (c : A) (n r : Walk) (a b : Lent → Lent) : Type 0 where
@@ -80,26 +83,33 @@ module _ {A : Type 0} (z : Form A) (src : List ℕ) where
 
 module _ {A : Type 0} {z : Form A} {src : List ℕ} where
   -- ---- an answer takes a byte, and ends in the source
+  pub found-drawn : {i : ℕ} {c : A} → Found z src i c → Draws (z .peg) (drop i src) (z .match c) (z .draw c (drop i src))
+  found-drawn {i} {c} f = z .drawn (drop i src) c (f .answered)
+
+  pub found-hit : {i : ℕ} {c : A} → Found z src i c → hit (run (bytewise (z .peg)) (drop i src)) ≡ true
+  found-hit f = ap hit (sym (found-drawn f .reads .is)) ∙ f .hits
+
   pub found-some : {i : ℕ} {c : A} → Found z src i c → i < endOf z src i c
   found-some {i} {c} f =
-      let e : 0 < taken (run (bytewise (z .peg)) (drop i src)) = hit-pos (bytewise (z .peg)) (drop i src) (z .some) (ap hit (sym (f .drawn .reads .is))
-      ∙ f .hits) in
-      omega (arith, e, ap taken (f .drawn .reads .is))
+      omega (arith, hit-pos (bytewise (z .peg)) (drop i src) (z .some) (found-hit f), ap taken (found-drawn f .reads .is))
 
   pub found-in : {i : ℕ} {c : A} → Found z src i c → endOf z src i c ≤ length src
-  found-in {i} {c} f = omega (arith, took-inside src i (f .within) (f .drawn .reads), f .within)
+  found-in {i} {c} f = omega (arith, took-inside src i (f .within) (found-drawn f .reads), f .within)
 
   -- the code's answer is of a part of the source
-  pub found-at : {i : ℕ} (c : A) → i ≤ length src
-      → Draws (z .peg) (take (length src - i) (drop i src)) (z .match c) (z .draw c (take (length src - i) (drop i src)))
-      → hit (z .match c) ≡ true → Found z src i c
-  found-at {i} c w d h =
-      record { within = w; hits = h; drawn = subst (λ (u : List ℕ). Draws (z .peg) u (z .match c) (z .draw c u)) (rest-is i src) d }
+  pub found-at : {i : ℕ} (c : A) → i ≤ length src → z .Answered (take (length src - i) (drop i src)) c → hit (z .match c) ≡ true → Found z src i c
+  found-at {i} c w d h = record { within = w; hits = h; answered = subst (λ (u : List ℕ). z .Answered u c) (rest-is i src) d }
+
+  -- where its items are these, the walk has gone over it
+  pub one-done : {at len : ℕ} {c : A} {n r : Walk} {a b : Lent → Lent} {ys : List Item} → len ≡ taken (z .match c)
+      → ((xs : List Item) → ys ≡ z .items src xs (z .draw c (drop at src) at)) → Goes ys src (at + len) n r a b → GoesOne z src at c n r a b
+  one-done {at} {r = r} el e g =
+      record { wrote = λ xs ta. wrote-as (e xs) (g .wrote); came = subst (λ (k : ℕ). At src (at + k) r) el (g .at) }
 
   -- ---- the loop
   pub turn-start : {at : ℕ} {n : Walk} (a : Lent → Lent) {c : A} → At src at n → Found z src at c → Turning z src at n a at c n a
   turn-start {at} {n} a {c} h f =
-      let e : taken (run (bytewise (z .peg)) (drop at src)) ≡ taken (z .match c) = ap taken (sym (f .drawn .reads .is)) in
+      let e : taken (run (bytewise (z .peg)) (drop at src)) ≡ taken (z .match c) = ap taken (sym (found-drawn f .reads .is)) in
       record {
         came = h;
         item = f;
@@ -110,8 +120,8 @@ module _ {A : Type 0} {z : Form A} {src : List ℕ} where
               wrote = wrote-none n a;
               left =
                   ap₂ (z .items src) (sym (append-nil xs))
-                  (first-item (z .peg) src at (ap hit (sym (f .drawn .reads .is)) ∙ f .hits)
-                  ∙ ap₂ (λ (v : Forest) (k : ℕ). v ⊕ rest (z .peg) src (at + k)) (f .drawn .draws (f .hits) at) e);
+                  (first-item (z .peg) src at (found-hit f)
+                  ∙ ap₂ (λ (v : Forest) (k : ℕ). v ⊕ rest (z .peg) src (at + k)) (found-drawn f .draws (f .hits) at) e);
             };
       }
 
@@ -154,13 +164,14 @@ module _ {A : Type 0} {z : Form A} {src : List ℕ} where
     turn-end {j} ej o = sym (o .ends) ∙ ap (past (z .peg) src) ej ∙ w .ends
 
     -- the answer x at e follows
-    turn-more : {j e : ℕ} {x : A} → j ≡ endOf z src i c → FoundAt (z .peg) src j e (z .match x) (z .draw x (drop e src)) → Turning z src at n a e x r d
-    turn-more {j} {e} {x} ej f =
-        let h : FoundAt (z .peg) src (endOf z src i c) e (z .match x) (z .draw x (drop e src)) = subst
-        (λ (k : ℕ). FoundAt (z .peg) src k e (z .match x) (z .draw x (drop e src))) ej f in
+    turn-more : {j e : ℕ} {x : A} → j ≡ endOf z src i c → Next (z .peg) src j e (z .match x) (z .draw x (drop e src)) → Found z src e x
+        → Turning z src at n a e x r d
+    turn-more {j} {e} {x} ej f y =
+        let h : Next (z .peg) src (endOf z src i c) e (z .match x) (z .draw x (drop e src)) = subst
+        (λ (k : ℕ). Next (z .peg) src k e (z .match x) (z .draw x (drop e src))) ej f in
         record {
-          came = at-on (omega (arith, h .behind)) (h .within) (g .came);
-          item = record { within = h .within; hits = h .hits; drawn = h .drawn };
+          came = at-on (omega (arith, h .behind)) (y .within) (g .came);
+          item = y;
           ends = sym (h .ends) ∙ w .ends;
           left = λ xs t.
               record {
@@ -173,50 +184,43 @@ module _ {A : Type 0} {z : Form A} {src : List ℕ} where
               };
         }
 
--- ---- the loop's code: the answer c at i takes l bytes, k is the comma behind it, which takes e bytes, and x the answer there
+-- ---- the loop's code: t is the turn behind the answer c at i, and x the answer where another item would stand
 module _ {A : Type 0} {z : Form A} {src : List ℕ} {at : ℕ} {n : Walk} {a : Lent → Lent} {i : ℕ} {c : A} {m : Walk} {b : Lent → Lent}
-    (w : Turning z src at n a i c m b) (l : ℕ) (el : l ≡ taken (z .match c)) where
-  pub item-in : i + l ≤ length src
-  item-in = omega (arith, el, found-in (w .item))
+    (w : Turning z src at n a i c m b) where
+  pub item-in : i + taken (z .match c) ≤ length src
+  item-in = found-in (w .item)
 
-  module _ (k : Match) (hk : Reads comma (take (length src - (i + l)) (drop (i + l) src)) k) where
+  module _ {t : Turn} (h : Turned src i (z .match c) t) where
+    pub next-in : t .next ≤ length src
+    next-in = turn-next-in h item-in
+
+    list-done : {r : Walk} {d : Lent → Lent} → GoesOne z src i c m r b d → Over (z .peg) src (t .end)
+        → GoesList z src at n (record { walk = r; end = t .end }) a d
+    list-done g o = record { all = turn-done w g (h .end) o; end = turn-end w g (h .end) o }
+
     -- no comma
-    module _ {r : Walk} {d : Lent → Lent} (g : GoesOne z src i c m r b d) (h : hit k ≡ false) where
-      pub comma-done : GoesAll z src at n r a d
-      comma-done = turn-done w g (ap (λ (y : ℕ). i + y) el) (none-comma (z .peg) src (i + l) k item-in hk h)
+    pub comma-done : {r : Walk} {d : Lent → Lent} → GoesOne z src i c m r b d → t .more ≡ false
+        → GoesList z src at n (record { walk = r; end = t .end }) a d
+    comma-done g q = list-done g (none-comma (z .peg) src (t .end) (sym (h .more) ∙ q))
 
-      pub comma-end : i + l ≡ stop z src at
-      comma-end = turn-end w g (ap (λ (y : ℕ). i + y) el) (none-comma (z .peg) src (i + l) k item-in hk h)
+    module _ (q : t .more ≡ true) (x : A) (y : z .Answered (take (length src - t .next) (drop (t .next) src)) x) where
+      there : z .Answered (drop (t .next) src) x
+      there = subst (λ (u : List ℕ). z .Answered u x) (rest-is (t .next) src) y
 
-    module _ (e : ℕ) (ee : e ≡ taken k) where
-      pub comma-in : i + l + e ≤ length src
-      comma-in = omega (arith, ee, comma-within (z .peg) src (i + l) k item-in hk)
+      -- a comma, and no item behind it
+      pub item-done : {r : Walk} {d : Lent → Lent} → GoesOne z src i c m r b d → hit (z .match x) ≡ false
+          → GoesList z src at n (record { walk = r; end = t .end }) a d
+      item-done g e =
+          list-done g
+          (none-item (z .peg) src (t .end) (t .next) (h .next) (sym (h .more) ∙ q) (z .match x) e (z .drawn (drop (t .next) src) x there .reads))
 
-      behind : i + l + e ≡ i + l + taken k
-      behind = ap (λ (y : ℕ). i + l + y) ee
+      -- another item
+      module _ (e : hit (z .match x) ≡ true) where
+        follows : Next (z .peg) src (t .end) (t .next) (z .match x) (z .draw x (drop (t .next) src))
+        follows = next (z .peg) src (t .end) (t .next) (h .next) (sym (h .more) ∙ q) (z .match x) _ e (z .drawn (drop (t .next) src) x there)
 
-      module _ (h : hit k ≡ true) (x : A)
-          (d : Draws (z .peg) (take (length src - (i + l + e)) (drop (i + l + e) src)) (z .match x)
-          (z .draw x (take (length src - (i + l + e)) (drop (i + l + e) src)))) where
-        over : hit (z .match x) ≡ false → Over (z .peg) src (i + l)
-        over q = none-item (z .peg) src (i + l) k item-in hk (i + l + e) (z .match x) behind h q (d .reads)
+        pub item-more : {r : Walk} {d : Lent → Lent} → GoesOne z src i c m r b d → Turning z src at n a (t .next) x r d
+        item-more g = turn-more w g (h .end) follows (record { within = next-in; hits = e; answered = there })
 
-        next : hit (z .match x) ≡ true → FoundAt (z .peg) src (i + l) (i + l + e) (z .match x) (z .draw x (drop (i + l + e) src))
-        next q =
-            subst (λ (u : List ℕ). FoundAt (z .peg) src (i + l) (i + l + e) (z .match x) (z .draw x u)) (rest-is (i + l + e) src)
-            (found (z .peg) src (i + l) k item-in hk (i + l + e) (z .match x) _ behind h q d)
-
-        -- a comma, and no item behind it
-        module _ {r : Walk} {f : Lent → Lent} (g : GoesOne z src i c m r b f) (q : hit (z .match x) ≡ false) where
-          pub item-done : GoesAll z src at n r a f
-          item-done = turn-done w g (ap (λ (y : ℕ). i + y) el) (over q)
-
-          pub item-end : i + l ≡ stop z src at
-          item-end = turn-end w g (ap (λ (y : ℕ). i + y) el) (over q)
-
-        -- another item
-        pub item-more : {r : Walk} {f : Lent → Lent} → GoesOne z src i c m r b f → hit (z .match x) ≡ true → Turning z src at n a (i + l + e) x r f
-        item-more g q = turn-more w g (ap (λ (y : ℕ). i + y) el) (next q)
-
-        pub item-less : hit (z .match x) ≡ true → length src - (i + l + e) < length src - i
-        item-less q = omega (arith, next q .behind, next q .within)
+        pub item-less : length src - t .next < length src - i
+        item-less = omega (arith, follows .behind, h .end, next-in)

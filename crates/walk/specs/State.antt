@@ -48,6 +48,10 @@ noted p r n =
 abbrev pub counting : Walk → Walk
 counting n = record { door = Count; counts = n .counts; place = n .place; reason = n .reason; here = n .here }
 
+-- the same walk at another place
+abbrev pub placed : SourceLocation → Walk → Walk
+placed p n = record { door = n .door; counts = n .counts; place = n .place; reason = n .reason; here = p }
+
 -- ---- what the door does with rows that come to it from row k on
 unfoldable pub left : Door → ℕ → ℕ → List (List ℕ) → List ℕ → List ℕ
 left Count size k rows t = t

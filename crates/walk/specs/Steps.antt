@@ -1,15 +1,13 @@
--- Laws of the walk's state: what items do one after another, a number, a row at the door, a step to another offset.
-use Prim.Native.Nat.{ℕ, zero, suc, _+_, _^_, _≤_, _<_}
+-- Laws of the walk's state: what items do one after another, a number, a step to another offset.
+use Prim.Native.Nat.{ℕ, zero, suc, _+_, _≤_}
 use native.Mathlib.Omega.{arith}
 use mathlib.Core.Path.{_≡_, refl, ap, ap₂, subst, sym, _∙_}
 use mathlib.Core.List.{List, [], _∷_, _++_}
 use mathlib.Core.Bool.{Bool, true, false}
-use lib.ListN.{length, getD, length-append}
+use lib.ListN.{length, length-append}
 use lib.Dec.{eqb}
-use borrow.Author.Tests.{eqb-true, eqb-false}
 use Rattle.meaning.specs.declared.SourceLocation.{SourceLocation}
 use Rattle.meaning.specs.Choice.{pick}
-use Rattle.meaning.specs.Places.{placeAt}
 use Rattle.meaning.specs.Tables.{Table, number, size, Item, int, row, rowsOf, count, Bad, puts, Lent, lent}
 use Rattle.ast.specs.RowLaws.{puts-append}
 use Rattle.walk.specs.declared.Door.{Door}
@@ -17,10 +15,10 @@ use Rattle.walk.specs.declared.Door.the-variants.{Count, Write}
 use Rattle.walk.specs.declared.Walk.{Walk}
 use Rattle.walk.specs.declared.Number.{Number}
 use Rattle.walk.specs.Terms.{integerItems}
-use Rattle.walk.specs.State.{slot, tableAt, counted, badOf, worse, bads, noted, counting, left, lend, Wrote, Near, Stands, At, Goes, same, Came, Put, Knows, Tallied}
+use Rattle.walk.specs.State.{counted, badOf, worse, bads, noted, counting, left, Wrote, Near, At, Goes, Tallied}
 
 -- ---- items one after another
-pub rows-append : (t : Table) (xs ys : List Item) → rowsOf t (xs ++ ys) ≡ rowsOf t xs ++ rowsOf t ys
+rows-append : (t : Table) (xs ys : List Item) → rowsOf t (xs ++ ys) ≡ rowsOf t xs ++ rowsOf t ys
 unfolding rowsOf
 rows-append t [] ys = refl
 rows-append t (int p r ∷ xs) ys = rows-append t xs ys
@@ -40,7 +38,7 @@ bads-append [] ys b = refl
 bads-append (int p r ∷ xs) ys b = bads-append xs ys (worse p r b)
 bads-append (row t ws ∷ xs) ys b = bads-append xs ys b
 
-left-none : (d : Door) (size k : ℕ) (t : List ℕ) → t ≡ left d size k [] t
+pub left-none : (d : Door) (size k : ℕ) (t : List ℕ) → t ≡ left d size k [] t
 unfolding puts left
 left-none Count size k t = refl
 left-none Write size k t = refl
@@ -113,6 +111,18 @@ goes-on e w h = record { wrote = h .wrote; at = at-on e w (h .at) }
 pub record Sound (x : Number) : Type 0 where
   pub absent : eqb (x .found) 1 ≡ false → x .reason ≡ 0
 
+module _ (t : Table) (x : Number) where
+  number-rows : rowsOf t (integerItems x) ≡ []
+  unfolding rowsOf
+  number-rows = go (eqb (x .found) 1)
+    where
+      go : (f : Bool) → rowsOf t (pick f (int (x .place) (x .reason) ∷ []) []) ≡ []
+      go true = refl
+      go false = refl
+
+  pub no-rows : count t (integerItems x) ≡ 0
+  no-rows = ap length number-rows
+
 module _ {x : Number} (ok : Sound x) where
   number-bad : (b : Bad) → worse (x .place) (x .reason) b ≡ bads (integerItems x) b
   unfolding bads worse
@@ -126,24 +136,16 @@ module _ {x : Number} (ok : Sound x) where
           good true = refl
           good false = refl
 
-  number-rows : (t : Table) → rowsOf t (integerItems x) ≡ []
-  unfolding rowsOf
-  number-rows t = go (eqb (x .found) 1)
-    where
-      go : (f : Bool) → rowsOf t (pick f (int (x .place) (x .reason) ∷ []) []) ≡ []
-      go true = refl
-      go false = refl
-
-  pub note-wrote : (n : Walk) (a : Lent → Lent) → Wrote (integerItems x) n (noted (x .place) (x .reason) n) a a
+  note-wrote : (n : Walk) (a : Lent → Lent) → Wrote (integerItems x) n (noted (x .place) (x .reason) n) a a
   note-wrote n a =
       record {
         door = refl;
         sized = refl;
-        counts = λ t. omega (arith, ap length (number-rows t));
+        counts = λ t. omega (arith, no-rows t x);
         bad = number-bad (badOf n);
         words = λ l t.
             left-none (n .door) (size t) (counted t n) (lent t (a l))
-            ∙ ap (λ (rs : List (List ℕ)). left (n .door) (size t) (counted t n) rs (lent t (a l))) (sym (number-rows t));
+            ∙ ap (λ (rs : List (List ℕ)). left (n .door) (size t) (counted t n) rs (lent t (a l))) (sym (number-rows t x));
       }
 
   -- it moves nothing: m is the state after it
@@ -152,151 +154,10 @@ module _ {x : Number} (ok : Sound x) where
       subst (λ (z : Walk). Goes (integerItems x) src k n z a a) (sym e)
       (record { wrote = note-wrote n a; at = record { within = h .within; sized = h .sized; few = h .few; near = h .near } })
 
--- ---- a row at the door
-lend-is : (u t : Table) (ws : List ℕ) (l : Lent) → lent t (lend u ws l) ≡ pick (eqb (number t) (number u)) ws (lent t l)
-lend-is Table.declarations Table.declarations ws l = refl
-lend-is Table.declarations Table.fields ws l = refl
-lend-is Table.declarations Table.tags ws l = refl
-lend-is Table.declarations Table.constraints ws l = refl
-lend-is Table.declarations Table.comments ws l = refl
-lend-is Table.fields Table.declarations ws l = refl
-lend-is Table.fields Table.fields ws l = refl
-lend-is Table.fields Table.tags ws l = refl
-lend-is Table.fields Table.constraints ws l = refl
-lend-is Table.fields Table.comments ws l = refl
-lend-is Table.tags Table.declarations ws l = refl
-lend-is Table.tags Table.fields ws l = refl
-lend-is Table.tags Table.tags ws l = refl
-lend-is Table.tags Table.constraints ws l = refl
-lend-is Table.tags Table.comments ws l = refl
-lend-is Table.constraints Table.declarations ws l = refl
-lend-is Table.constraints Table.fields ws l = refl
-lend-is Table.constraints Table.tags ws l = refl
-lend-is Table.constraints Table.constraints ws l = refl
-lend-is Table.constraints Table.comments ws l = refl
-lend-is Table.comments Table.declarations ws l = refl
-lend-is Table.comments Table.fields ws l = refl
-lend-is Table.comments Table.tags ws l = refl
-lend-is Table.comments Table.constraints ws l = refl
-lend-is Table.comments Table.comments ws l = refl
-
-slot-small : (t : Table) → slot t < 5
-slot-small Table.declarations = omega arith
-slot-small Table.fields = omega arith
-slot-small Table.tags = omega arith
-slot-small Table.constraints = omega arith
-slot-small Table.comments = omega arith
-
-lent-own : (u : Table) (ws : List ℕ) (l : Lent) → lent u (lend u ws l) ≡ ws
-lent-own Table.declarations ws l = refl
-lent-own Table.fields ws l = refl
-lent-own Table.tags ws l = refl
-lent-own Table.constraints ws l = refl
-lent-own Table.comments ws l = refl
-
-slot-is : (t : Table) → number t ≡ slot t + 1
-slot-is Table.declarations = refl
-slot-is Table.fields = refl
-slot-is Table.tags = refl
-slot-is Table.constraints = refl
-slot-is Table.comments = refl
-
-same-slot : (t u : Table) → number t ≡ number u → slot t ≡ slot u
-same-slot t u e = let a = slot-is t in let b = slot-is u in omega (arith, a, b)
-
-same-number : (t u : Table) → slot t ≡ slot u → number t ≡ number u
-same-number t u e = omega (arith, slot-is t, slot-is u)
-
-table-is : (t : Table) → tableAt (slot t) ≡ t
-table-is Table.declarations = refl
-table-is Table.fields = refl
-table-is Table.tags = refl
-table-is Table.constraints = refl
-table-is Table.comments = refl
-
-same-table : (t u : Table) → number t ≡ number u → u ≡ t
-same-table t u e = sym (table-is u) ∙ ap tableAt (sym (same-slot t u e)) ∙ table-is t
-
--- there is a byte up to k for one row more of each table
-pub record Spare (k : ℕ) (n : Walk) : Type 0 where
-  pub spare : (t : Table) → counted t n < k
-
--- what `put` asks
-pub asks-own : (u : Table) {src : List ℕ} {k : ℕ} {n : Walk} → At src k n → counted u n < k → length src < 2 ^ 64 → Knows n (slot u)
-asks-own u {src} {k} {n} h e s = record { sized = h .sized; slot = slot-small u; room = omega (arith, e, h .within, s) }
-
-pub put-asks : (u : Table) {src : List ℕ} {k : ℕ} {n : Walk} → At src k n → Spare k n → length src < 2 ^ 64 → Knows n (slot u)
-put-asks u h e s = asks-own u h (e .spare u) s
-
-module _ (u : Table) {ws : List ℕ} {n r : Walk} {t t' : List ℕ} (p : Put (slot u) ws n r t t') where
-  -- ws' are the words of the row, which only a walk that writes makes
-  module _ (ws' : List ℕ) (e : n .door ≡ Write → ws ≡ ws') (s : length ws ≡ size u) where
-    put-words : t' ≡ left (n .door) (size u) (counted u n) (ws' ∷ []) t
-    unfolding left
-    put-words = p .words ∙ ap (λ (k : ℕ). left (n .door) k (counted u n) (ws ∷ []) t) s ∙ go (n .door) refl
-      where
-        go : (d : Door) → n .door ≡ d → left d (size u) (counted u n) (ws ∷ []) t ≡ left d (size u) (counted u n) (ws' ∷ []) t
-        go Count q = refl
-        go Write q = ap (λ (x : List ℕ). puts (size u) (counted u n) (x ∷ []) t) (e q)
-
-    pub put-wrote : length (n .counts) ≡ 5 → Wrote (row u ws' ∷ []) n r (lend u t) (lend u t')
-    unfolding rowsOf bads
-    put-wrote z =
-        record {
-          door = p .door;
-          sized = p .sized ∙ sym z;
-          counts = λ v. tally v (eqb (number v) (number u)) refl;
-          bad = p .bad;
-          words = λ l v. lend-is u v t' l ∙ there l v (eqb (number v) (number u)) refl;
-        }
-      where
-        tally : (v : Table) (b : Bool) → eqb (number v) (number u) ≡ b → counted v r ≡ counted v n + length (pick b (ws' ∷ []) [])
-        tally v true q = let i : slot v ≡ slot u = same-slot v u (eqb-true _ _ q) in rw i (p .one)
-        tally v false q = p .same (slot v) (λ i. eqb-false _ _ q (same-number v u i)) ∙ omega arith
-
-        there : (l : Lent) (v : Table) (b : Bool) → eqb (number v) (number u) ≡ b
-            → pick b t' (lent v l) ≡ left (n .door) (size v) (counted v n) (pick b (ws' ∷ []) []) (lent v (lend u t l))
-        there l v true q =
-            subst (λ (x : Table). t' ≡ left (n .door) (size x) (counted x n) (ws' ∷ []) (lent x (lend u t l))) (same-table v u (eqb-true _ _ q))
-            (put-words ∙ ap (left (n .door) (size u) (counted u n) (ws' ∷ [])) (sym (lent-own u t l)))
-        there l v false q = left-none (n .door) (size v) (counted v n) (lent v l)
-            ∙ ap (left (n .door) (size v) (counted v n) []) (sym (lend-is u v t l ∙ rw q refl))
-
-    -- and the walk that has come to k with a byte for one row more of the table has gone over it
-    pub put-own : {src : List ℕ} {k : ℕ} → At src k n → counted u n < k → Goes (row u ws' ∷ []) src k n r (lend u t) (lend u t')
-    put-own {src} {k} h e =
-        record {
-          wrote = put-wrote (h .sized);
-          at =
-              record {
-                within = h .within;
-                sized = p .sized;
-                few = λ v. go v (eqb (number v) (number u)) refl;
-                near = subst (λ (d : Door). Near d src k (r .here)) (sym (p .door)) (subst (λ (q : SourceLocation). Near (n .door) src k q) (sym (p .here))
-                    (h .near));
-              };
-        }
-      where
-        go : (v : Table) (b : Bool) → eqb (number v) (number u) ≡ b → counted v r ≤ k
-        go v true q = let i : slot v ≡ slot u = same-slot v u (eqb-true _ _ q) in rw i (omega (arith, p .one, e))
-        go v false q = omega (arith, p .same (slot v) (λ i. eqb-false _ _ q (same-number v u i)), h .few v)
-
-    pub put-goes : {src : List ℕ} {k : ℕ} → At src k n → Spare k n → Goes (row u ws' ∷ []) src k n r (lend u t) (lend u t')
-    put-goes h e = put-own h (e .spare u)
-
--- ---- leaf rows: the walk comes to where the row starts, then to where it ends
-pub stood : {src : List ℕ} {k : ℕ} {n r : Walk} → Came src k n r → n .door ≡ Write → r .here ≡ placeAt src k
-unfolding Stands
-stood {src} {k} {n} {r} c e = subst (λ (d : Door). Stands d src k (r .here)) (c .goes .wrote .door ∙ e) (c .stands)
-
 -- nothing was met: no count is another
 pub same-counts : {n r : Walk} {a b : Lent → Lent} → Wrote [] n r a b → (t : Table) → counted t r ≡ counted t n
 unfolding rowsOf
 same-counts w t = omega (arith, w .counts t)
-
--- a walk that had come to j has bytes to spare at k
-pub spare : {src : List ℕ} {j k : ℕ} {n r : Walk} {a b : Lent → Lent} → At src j n → Wrote [] n r a b → j < k → Spare k r
-spare h w e = record { spare = λ t. omega (arith, h .few t, same-counts w t, e) }
 
 pub counting-at : {src : List ℕ} {k : ℕ} {n : Walk} → At src k n → At src k (counting n)
 unfolding Near

@@ -158,10 +158,6 @@ first-item x src at h =
     (drop-drop (taken (run (bytewise x) (drop at src))) at src))
 
 -- ---- where all turns from j on end
-pub past-from : (x : Peg) (src : List ℕ) (j : ℕ) → j ≤ past x src j
-unfolding past
-past-from x src j = omega arith
-
 -- the turns take no more than the rule that has them, which takes blanks even where no turn follows
 turns-within : (x : Peg) (u : List ℕ) → taken (run (star (bytewise (turn x))) u) ≤ taken (run (bytewise (seq skip (repeat (text "," ~ x)))) u)
 turns-within x u = go (hit (run (bytewise (turn x)) u)) refl

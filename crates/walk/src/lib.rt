@@ -1,8 +1,10 @@
 // The walk's state, and the door through which every row goes into its table. Row making (`rows`) is apart from row writing.
 ghost use mathlib.Core.Path.{_≡_};
 ghost use Rattle.grammar.specs.Matching.{Reads};
+ghost use Rattle.meaning.specs.Peg.{taken};
 ghost use Rattle.walk.specs.Turns.{comma};
-ghost use Prim.Native.Nat.{_<_};
+ghost use Rattle.walk.specs.Nexts.{Turned};
+ghost use Prim.Native.Nat.{_+_, _≤_, _<_};
 ghost use lib.ListN.{length, getD};
 ghost use mathlib.Core.List.{[], _∷_};
 ghost use Rattle.walk.specs.State.{fresh, noted, counting, left, Knows, Put, At, Came};
@@ -15,11 +17,32 @@ pub mod rows;
 pub mod terms;
 
 // A comma with the blanks around it.
-pub fn comma(s: &[u8]) -> Match
+fn comma(s: &[u8]) -> Match
     ensures { λ r. ⌜ Reads comma (now (s .entry)) r ⌝ }
 {
     let start = Match::Took(0, 0);
     then_blanks(s, then_literal(s, then_blanks(s, start), b","))
+}
+
+// Behind an item of a list: where it ends, whether a comma follows, and where another item would stand.
+pub struct Turn {
+    pub end: usize,
+    pub more: bool,
+    pub next: usize,
+}
+
+// The turn behind the item that matched at i.
+pub fn turn_behind(s: &[u8], i: usize, item: Match) -> Turn
+    requires { ⌜ i + taken item ≤ length (now s) ⌝ }
+    ensures { λ r. ⌜ Turned (now (s .entry)) i item r ⌝ }
+{
+    let end = i + grammar::taken(item);
+    let comma = comma(&s[end..]);
+    Turn {
+        end,
+        more: grammar::took(comma),
+        next: end + grammar::taken(comma),
+    }
 }
 
 // What is done with a row: it is counted, or it is counted and written.

@@ -4,12 +4,17 @@
 mod aligner;
 #[path = "../../../library/src/declared.rs"]
 mod entries;
+mod feeder;
 mod matcher;
 mod reader;
+mod recorder;
 mod texts;
 
 use crate::reading::ENDIANNESS_WORDS;
-pub use aligner::{lay_out, Aligner, Laid};
+pub use aligner::Aligner;
+pub use entries::Aligner as State;
+pub use feeder::{lay_out, Laid};
 pub use matcher::{extent, extent_of};
 pub use reader::{read, reading};
-pub use texts::{convert, valid_prefix};
+pub use recorder::Recorder;
+pub use texts::{convert, location, name_text, valid_prefix};

@@ -11,7 +11,7 @@ pub struct Parameter {
     pub crossing: Crossing,
 }
 
-/// How a parameter crosses. Types are the port's: `u8`, `u64` and `usize`.
+/// How a parameter crosses. Types are the port's: `u8`, `u64` and `usize`, and its structs.
 pub enum Crossing {
     Value(String),
     Reference(String),
@@ -48,6 +48,18 @@ pub fn constants(text: &str, wanted: &str) -> BTreeMap<String, u64> {
                 .then(|| (name.to_owned(), value.parse().expect("a constant is a number")))
         })
         .collect()
+}
+
+/// The fields of a struct that C may be lent, with their types.
+pub fn fields(text: &str, name: &str) -> Vec<(String, String)> {
+    let head = format!("#[repr(C)]\npub struct {name} {{\n");
+    let (_, rest) = text.split_once(&head).unwrap_or_else(|| panic!("no struct {name} for C"));
+    let (inside, _) = rest.split_once('}').expect("a struct ends");
+    let field = |line: &str| {
+        let (name, kind) = line.trim().strip_prefix("pub ")?.strip_suffix(',')?.split_once(": ")?;
+        Some((name.to_owned(), kind.to_owned()))
+    };
+    inside.lines().filter_map(field).collect()
 }
 
 /// The constants of the header, `NAME = VALUE` in its enums.

@@ -3,7 +3,7 @@ use contract.Running.{givenOf, tables, tablesOf}
 use denote.Triple.Spec.{tripleOf}
 use denote.Triple.Table.{entered, cited}
 use Rattle.meaning.specs.Alignment.{add-bitfield}
-use Rattle.byte_aligner.proofs.Words.{Rule}
+use Rattle.byte_aligner.specs.Words.{Rule}
 use Rattle.byte_aligner.proofs.RecordWalk.{Planned, StoreIf, meets}
 use Rattle.byte_aligner.proofs.plan_bitfield.Symbol as plan-def
 use Rattle.byte_aligner.proofs.plan_bitfield.Symbol.{name as #byte-aligner·plan-bitfield}

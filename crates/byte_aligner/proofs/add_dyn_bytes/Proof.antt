@@ -3,7 +3,7 @@ use contract.Running.{givenOf, tables, tablesOf}
 use denote.Triple.Spec.{tripleOf}
 use denote.Triple.Table.{entered, cited}
 use Rattle.meaning.specs.Alignment.{add-dyn-bytes}
-use Rattle.byte_aligner.proofs.Words.{Rule}
+use Rattle.byte_aligner.specs.Words.{Rule}
 use Rattle.byte_aligner.proofs.StateWalk.{Core, meets}
 use Rattle.alignment.proofs.add_dyn_bytes.Symbol as core-def
 use Rattle.alignment.proofs.add_dyn_bytes.Symbol.{name as #alignment·add-dyn-bytes}

@@ -3,7 +3,7 @@ use contract.Running.{givenOf, tables, tablesOf}
 use denote.Triple.Spec.{tripleOf}
 use denote.Triple.Table.{entered, cited}
 use Rattle.meaning.specs.Alignment.{add-dyn-bytes}
-use Rattle.byte_aligner.proofs.Words.{Rule}
+use Rattle.byte_aligner.specs.Words.{Rule}
 use Rattle.byte_aligner.proofs.RecordWalk.{Planned, StoreIf, meets}
 use Rattle.byte_aligner.proofs.plan_dyn_bytes.Symbol as plan-def
 use Rattle.byte_aligner.proofs.plan_dyn_bytes.Symbol.{name as #byte-aligner·plan-dyn-bytes}

@@ -10,7 +10,7 @@ unfolding constraint-list
 returns c =
     let b = c .before .before .before in
     marked Rule.constraint-list
-    (link (b .before .then-constraint .ensures .steps)
+    (link (b .before .then-constraint .ensures .drawn .steps)
     (link (b .then-blanks .ensures)
     (option (b .then-blanks .ensures .fits) (link (c .before .before .then-comma .ensures) (c .before .then-commas .ensures)) (c .settle .ensures .is))))
 

@@ -2,7 +2,8 @@ use Rattle.meaning.specs.Peg.{seq}
 use Rattle.meaning.specs.Pdl.{text, skip}
 use native.Mathlib.Omega.{arith}
 use denote.Ref.{now}
-use Rattle.declaration_rows.proofs.MemberLaws.{taken-in, taken-is}
+use Rattle.grammar.specs.Steps.{taken-at}
+use Rattle.grammar.specs.Bounds.{run-inside}
 use borrow.Author.Needs.{needs}
 use Rattle.declaration_rows.proofs.closed.Statement.{statement}
 use Rattle.declaration_rows.proofs.closed.Tie as tie
@@ -13,16 +14,15 @@ add-result c =
     omega (
       arith,
       c .taken .ensures,
-      taken-is (now (b .args .s)) (b .args .j) (c .before .next-literal .ensures),
-      taken-in (now (b .args .s)) (b .args .j)
-          (seq skip (text "}")) (b .pre),
+      taken-at (b .args .j) (now (b .args .s)) (c .before .next-literal .ensures),
+      run-inside (now (b .args .s)) (b .args .j) (seq skip (text "}")) (b .pre),
       b .good,
     )
 
 returns : tie.Need-returns
 returns c =
     let b = c .before .before .before .before .before in
-    omega (arith, c .taken .ensures, taken-is (now (b .args .s)) (b .args .j) (c .before .next-literal .ensures))
+    omega (arith, c .taken .ensures, taken-at (b .args .j) (now (b .args .s)) (c .before .next-literal .ensures))
 
 pub closed-spec : {M : Type 1} → statement M
 closed-spec =

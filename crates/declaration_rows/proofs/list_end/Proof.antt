@@ -1,8 +1,8 @@
-use Rattle.meaning.specs.Peg.{seq, opt}
-use Rattle.meaning.specs.Pdl.{text, skip}
 use native.Mathlib.Omega.{arith}
 use denote.Ref.{now}
-use Rattle.declaration_rows.proofs.MemberLaws.{taken-in, taken-is}
+use Rattle.grammar.specs.Steps.{taken-at}
+use Rattle.grammar.specs.Bounds.{run-inside}
+use Rattle.walk.specs.Listing.{last}
 use borrow.Author.Needs.{needs}
 use Rattle.declaration_rows.proofs.list_end.Statement.{statement}
 use Rattle.declaration_rows.proofs.list_end.Tie as tie
@@ -13,16 +13,15 @@ add-result c =
     omega (
       arith,
       c .taken .ensures,
-      taken-is (now (b .args .s)) (b .args .j) (c .before .then-last-comma .ensures),
-      taken-in (now (b .args .s)) (b .args .j)
-          (seq skip (opt (text ","))) (b .pre),
+      taken-at (b .args .j) (now (b .args .s)) (c .before .then-last-comma .ensures),
+      run-inside (now (b .args .s)) (b .args .j) last (b .pre),
       b .good,
     )
 
 returns : tie.Need-returns
 returns c =
     let b = c .before .before .before .before in
-    omega (arith, c .taken .ensures, taken-is (now (b .args .s)) (b .args .j) (c .before .then-last-comma .ensures))
+    omega (arith, c .taken .ensures, taken-at (b .args .j) (now (b .args .s)) (c .before .then-last-comma .ensures))
 
 pub list-end-spec : {M : Type 1} → statement M
 list-end-spec =

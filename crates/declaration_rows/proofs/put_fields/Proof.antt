@@ -1,6 +1,6 @@
 use mathlib.Core.Path.{sym, _∙_}
 use borrow.Author.Needs.{needs}
-use Rattle.declaration_rows.proofs.MemberLaws.{none-done, fields-ready, fields-in, fields-done}
+use Rattle.declaration_rows.proofs.MemberLaws.{none-done, fields-ready, list-in, fields-done}
 use Rattle.declaration_rows.proofs.put_fields.Statement.{statement}
 use Rattle.declaration_rows.proofs.put_fields.Tie as tie
 
@@ -22,19 +22,14 @@ put-fields-requires c κs =
     fields-ready (f .before .before .before .before .before .pre) (f .field .result) (f .field .ensures) (sym (i .before .took .ensures) ∙ i .if1 .taken)
 
 list-end-requires : tie.Need-list-end-requires
-list-end-requires c κs =
-    let i = c .before .before .before .before .before .before .before .before in
-    let f = i .before .before in
-    fields-in (f .before .before .before .before .before .pre) (f .field .result) (f .field .ensures) (sym (i .before .took .ensures) ∙ i .if1 .taken)
-    (c .before .before .before .before .before .put-fields .ensures .all) (c .before .before .before .before .before .put-fields .ensures .end)
+list-end-requires c κs = list-in (c .before .before .before .before .before .put-fields .ensures)
 
 returns-2 : tie.Need-returns-2
 returns-2 c =
     let i = c .before .before .before .before .before .before .before .before .before in
     let f = i .before .before in
     fields-done (f .before .before .before .before .before .pre) (f .field .result) (f .field .ensures) (sym (i .before .took .ensures) ∙ i .if1 .taken)
-    (c .before .before .before .before .before .before .put-fields .ensures .all)
-    (c .before .before .before .before .before .before .put-fields .ensures .end) (c .list-end .ensures)
+    (c .before .before .before .before .before .before .put-fields .ensures) (c .list-end .ensures)
 
 pub put-fields-spec : {M : Type 1} → statement M
 put-fields-spec =

@@ -1,5 +1,5 @@
 use borrow.Author.Needs.{needs}
-use Rattle.declaration_rows.proofs.MemberLaws.{tags-ready, tags-in, tags-done}
+use Rattle.declaration_rows.proofs.MemberLaws.{tags-ready, list-in, tags-done}
 use Rattle.declaration_rows.proofs.put_tags.Statement.{statement}
 use Rattle.declaration_rows.proofs.put_tags.Tie as tie
 
@@ -13,14 +13,12 @@ put-tags-requires : tie.Need-put-tags-requires
 put-tags-requires c κs = tags-ready (c .before .before .before .before .before .pre) (c .before .enum-tag .ensures)
 
 list-end-requires : tie.Need-list-end-requires
-list-end-requires c κs =
-    tags-in (c .before .before .before .before .before .before .before .before .before .pre) (c .before .before .before .put-tags .ensures .all)
-    (c .before .before .before .put-tags .ensures .end)
+list-end-requires c κs = list-in (c .before .before .before .put-tags .ensures)
 
 returns : tie.Need-returns
 returns c =
     tags-done (c .before .before .before .before .before .before .before .before .before .before .pre)
-    (c .before .before .before .before .put-tags .ensures .all) (c .before .before .before .before .put-tags .ensures .end) (c .list-end .ensures)
+    (c .before .before .before .before .put-tags .ensures) (c .list-end .ensures)
 
 pub put-tags-spec : {M : Type 1} → statement M
 put-tags-spec =

@@ -8,7 +8,7 @@ use Rattle.declarations.proofs.checksum_declaration.Tie as tie
 
 returns : tie.Need-returns
 unfolding checksum-declaration checksum-head
-returns c = named Rule.checksum-declaration (c .checksum-head .ensures .reads)
+returns c = named Rule.checksum-declaration (c .checksum-head .ensures .drawn .reads)
 
 pub checksum-declaration-spec : {M : Type 1} → statement M
 checksum-declaration-spec = tie.close (tie.spec (λ c κs. search needs) returns)

@@ -8,7 +8,7 @@ use Rattle.declarations.proofs.custom_field_declaration.Tie as tie
 
 returns : tie.Need-returns
 unfolding custom-field-declaration custom-head
-returns c = named Rule.custom-field-declaration (c .custom-field-head .ensures .reads)
+returns c = named Rule.custom-field-declaration (c .custom-field-head .ensures .drawn .reads)
 
 pub custom-field-declaration-spec : {M : Type 1} → statement M
 custom-field-declaration-spec = tie.close (tie.spec (λ c κs. search needs) returns)

@@ -11,7 +11,7 @@ unfolding enum-declaration enum-head
 returns c =
     let a = c .before .before .before in
     named Rule.enum-declaration
-    (chain (chain (a .before .enum-head .ensures .reads) (link (a .then-blanks .ensures) (c .before .before .then-enum-tag-list .ensures)))
+    (chain (chain (a .before .enum-head .ensures .drawn .reads) (link (a .then-blanks .ensures) (c .before .before .then-enum-tag-list .ensures)))
     (c .next-literal .ensures))
 
 pub enum-declaration-spec : {M : Type 1} → statement M

@@ -11,7 +11,7 @@ unfolding group-declaration group-head
 returns c =
     let a = c .before .before .before in
     named Rule.group-declaration
-    (chain (chain (a .before .group-head .ensures .reads) (link (a .then-blanks .ensures) (c .before .before .then-field-list .ensures)))
+    (chain (chain (a .before .group-head .ensures .drawn .reads) (link (a .then-blanks .ensures) (c .before .before .then-field-list .ensures)))
     (c .next-literal .ensures))
 
 pub group-declaration-spec : {M : Type 1} → statement M

@@ -10,7 +10,7 @@ returns : tie.Need-returns
 unfolding packet-declaration packet-head
 returns c =
     let a = c .before .before .before in
-    named Rule.packet-declaration (chain (chain (a .packet-head .ensures .reads) (c .before .before .next-fields .ensures)) (c .next-literal .ensures))
+    named Rule.packet-declaration (chain (chain (a .packet-head .ensures .drawn .reads) (c .before .before .next-fields .ensures)) (c .next-literal .ensures))
 
 pub packet-declaration-spec : {M : Type 1} → statement M
 packet-declaration-spec =

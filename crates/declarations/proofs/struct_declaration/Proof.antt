@@ -10,7 +10,7 @@ returns : tie.Need-returns
 unfolding struct-declaration struct-head
 returns c =
     let a = c .before .before .before in
-    named Rule.struct-declaration (chain (chain (a .struct-head .ensures .reads) (c .before .before .next-fields .ensures)) (c .next-literal .ensures))
+    named Rule.struct-declaration (chain (chain (a .struct-head .ensures .drawn .reads) (c .before .before .next-fields .ensures)) (c .next-literal .ensures))
 
 pub struct-declaration-spec : {M : Type 1} → statement M
 struct-declaration-spec =

@@ -1,11 +1,11 @@
 use Prim.Native.Nat.{ℕ, _+_}
 use native.Mathlib.Omega.{arith}
-use mathlib.Core.Path.{_≡_, ap, subst, sym}
+use mathlib.Core.Path.{subst, sym}
 use borrow.Author.Needs.{needs}
 use denote.Ref.{now}
 use Rattle.walk.specs.State.{At, Came}
 use Rattle.walk.specs.Lists.{found-in}
-use Rattle.field_rows.proofs.Laws.{group-as, desc-ready, condition-inside, start-ready, grows, condition-stands, end-ready, put-ready, field-done}
+use Rattle.field_rows.proofs.Laws.{group-as, desc-ready, condition-inside, start-ready, group-ready, grows, condition-stands, end-ready, put-ready, field-done}
 use Rattle.field_rows.proofs.put_field.Statement.{statement}
 use Rattle.field_rows.proofs.put_field.Tie as tie
 
@@ -24,7 +24,14 @@ to-requires c κs =
     (c .note-desc .ensures)
 
 put-part-requires : tie.Need-put-part-requires
-put-part-requires c κs = record { at-it = c .before .before .to .ensures .goes .at }
+put-part-requires c κs =
+    let a = c .before .before in
+    let k = a .before in
+    let v = k .before .before in
+    let d = v .before in
+    group-ready (d .before .before .before .before .before .pre) (d .describe .ensures) (v .condition-number .ensures) (k .before .note .ensures)
+    (k .note-desc .ensures)
+    (a .to .ensures) (c .before .group-of .ensures)
 
 put-condition-requires : tie.Need-put-condition-requires
 put-condition-requires c κs =

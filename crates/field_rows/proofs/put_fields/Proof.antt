@@ -1,11 +1,10 @@
-use Prim.Native.Nat.{_+_, _-_, _≤_}
-use native.Mathlib.Omega.{arith}
+use Prim.Native.Nat.{_-_}
 use mathlib.Core.Path.{_≡_, refl, sym, _∙_}
 use borrow.Author.Needs.{needs}
 use lib.ListN.{length}
 use Rattle.meaning.specs.Tables.{Table}
 use Rattle.walk.specs.State.{lend}
-use Rattle.walk.specs.Lists.{Turning, turn-start, item-in, comma-done, comma-end, comma-in, item-done, item-end, item-more, item-less}
+use Rattle.walk.specs.Lists.{Turning, turn-start, item-in, next-in, comma-done, item-done, item-more, item-less}
 use Rattle.field_rows.specs.Fields.{field-form}
 use Rattle.field_rows.proofs.put_fields.Statement.{statement}
 use Rattle.field_rows.proofs.put_fields.Tie as tie
@@ -24,113 +23,74 @@ loop-holds c = let p = c .before .before .before .pre in (refl, (refl, turn-star
 put-field-requires : tie.Need-put-field-requires Inv-loop μ-loop
 put-field-requires c κs = let w = c .before .before .loop .inv .1 .1 in record { came = w .came; found = w .item }
 
-add-j : tie.Need-add-j Inv-loop μ-loop
-add-j c =
-    let l = c .before .before .before .before .before .before .before .before in
-    omega (arith, item-in (l .loop .inv .1 .1) _ (c .taken .ensures), l .before .before .before .before .good)
-
-sub-comma : tie.Need-sub-comma Inv-loop μ-loop
-sub-comma c = let l = c .before .before .before .before .before .before .before .before in item-in (l .loop .inv .1 .1) _ (c .taken .ensures)
-
-part-comma-start : tie.Need-part-comma-start Inv-loop μ-loop
-part-comma-start c = sub-comma c
+turn-behind-requires : tie.Need-turn-behind-requires Inv-loop μ-loop
+turn-behind-requires c κs = item-in (c .before .before .before .before .before .before .before .loop .inv .1 .1)
 
 same-length : tie.Need-same-length Inv-loop μ-loop
 same-length c =
-    let p = c .before .before .before .before .before .before .before .before .before in
+    let p = c .before .before .before .before .before .before in
     p .put-field .kept .1 .1 .1 .1 .0 ∙ p .before .before .before .loop .inv .0
 
 same-length-2 : tie.Need-same-length-2 Inv-loop μ-loop
 same-length-2 c =
-    let p = c .before .before .before .before .before .before .before .before .before in
+    let p = c .before .before .before .before .before .before in
     p .put-field .kept .1 .1 .1 .1 .1 .0 ∙ p .before .before .before .loop .inv .1 .0
 
 returns : tie.Need-returns Inv-loop μ-loop
 returns c =
-    let k = c .before .before in
-    let e = k .before .before in
+    let e = c .before in
     let p = e .before .before .before .before .before in
-    let w = p .before .before .before .loop .inv .1 .1 in
-    let h = sym (c .before .took .ensures) ∙ c .if1 .left in
-    record {
-      all = comma-done w _ (e .taken .ensures) _ (k .comma .ensures) (p .put-field .ensures) h;
-      end = comma-end w _ (e .taken .ensures) _ (k .comma .ensures) (p .put-field .ensures) h;
-    }
-
-add-i : tie.Need-add-i Inv-loop μ-loop
-add-i c =
-    let k = c .before .before .before in
-    let e = k .before .before in
-    let l = e .before .before .before .before .before .before .before .before in
-    omega (arith, comma-in (l .loop .inv .1 .1) _ (e .taken .ensures) _ (k .comma .ensures) _ (c .taken2 .ensures), l .before .before .before .before .good)
+    comma-done (p .before .before .before .loop .inv .1 .1) (e .turn-behind .ensures) (p .put-field .ensures) (c .if1 .left)
 
 sub-field : tie.Need-sub-field Inv-loop μ-loop
 sub-field c =
-    let k = c .before .before .before in
-    let e = k .before .before in
-    let l = e .before .before .before .before .before .before .before .before in
-    comma-in (l .loop .inv .1 .1) _ (e .taken .ensures) _ (k .comma .ensures) _ (c .taken2 .ensures)
-
-part-field-start : tie.Need-part-field-start Inv-loop μ-loop
-part-field-start c = sub-field c
+    let e = c .before in
+    next-in (e .before .before .before .before .before .before .before .before .loop .inv .1 .1) (e .turn-behind .ensures)
 
 loop-less : tie.Need-loop-less Inv-loop μ-loop
 loop-less c =
     let x = c .before .before in
     let f = x .before .before in
-    let k = f .before .before .before in
-    let e = k .before .before in
-    let l = e .before .before .before .before .before .before .before .before in
-    item-less (l .loop .inv .1 .1) _ (e .taken .ensures) _ (k .comma .ensures) _ (f .taken2 .ensures) (sym (f .before .before .took .ensures)
-    ∙ f .before .if1 .taken)
-    (x .field .result) (x .field .ensures) (sym (c .before .took2 .ensures) ∙ c .if2 .taken)
+    let e = f .before in
+    item-less (e .before .before .before .before .before .before .before .before .loop .inv .1 .1) (e .turn-behind .ensures) (f .if1 .taken)
+    (x .field .result) (x .field .ensures) (sym (c .before .took .ensures) ∙ c .if2 .taken)
 
 loop-again : tie.Need-loop-again Inv-loop μ-loop
 loop-again c =
     let x = c .before .before in
     let f = x .before .before in
-    let k = f .before .before .before in
-    let e = k .before .before in
+    let e = f .before in
     let p = e .before .before .before .before .before in
     let l = p .before .before .before in (
       p .put-field .kept .1 .1 .1 .1 .0 ∙ l .loop .inv .0,
       (
         p .put-field .kept .1 .1 .1 .1 .1 .0 ∙ l .loop .inv .1 .0,
-        item-more (l .loop .inv .1 .1) _ (e .taken .ensures) _ (k .comma .ensures) _ (f .taken2 .ensures) (sym (f .before .before .took .ensures)
-            ∙ f .before .if1 .taken)
-            (x .field .result) (x .field .ensures) (p .put-field .ensures) (sym (c .before .took2 .ensures) ∙ c .if2 .taken),
+        item-more (l .loop .inv .1 .1) (e .turn-behind .ensures) (f .if1 .taken) (x .field .result) (x .field .ensures)
+            (sym (c .before .took .ensures) ∙ c .if2 .taken) (p .put-field .ensures),
       ),
     )
 
 same-length-3 : tie.Need-same-length-3 Inv-loop μ-loop
 same-length-3 c =
-    let p = c .before .before .before .before .before .before .before .before .before .before .before .before .before .before in
+    let p = c .before .before .before .before .before .before .before .before .before .before in
     p .put-field .kept .1 .1 .1 .1 .0 ∙ p .before .before .before .loop .inv .0
 
 same-length-4 : tie.Need-same-length-4 Inv-loop μ-loop
 same-length-4 c =
-    let p = c .before .before .before .before .before .before .before .before .before .before .before .before .before .before in
+    let p = c .before .before .before .before .before .before .before .before .before .before in
     p .put-field .kept .1 .1 .1 .1 .1 .0 ∙ p .before .before .before .loop .inv .1 .0
 
 returns-2 : tie.Need-returns-2 Inv-loop μ-loop
 returns-2 c =
     let x = c .before .before in
     let f = x .before .before in
-    let k = f .before .before .before in
-    let e = k .before .before in
+    let e = f .before in
     let p = e .before .before .before .before .before in
-    let w = p .before .before .before .loop .inv .1 .1 in
-    let h = sym (f .before .before .took .ensures) ∙ f .before .if1 .taken in
-    let q = sym (c .before .took2 .ensures) ∙ c .if2 .left in
-    record {
-      all = item-done w _ (e .taken .ensures) _ (k .comma .ensures) _ (f .taken2 .ensures) h (x .field .result) (x .field .ensures) (p .put-field .ensures) q;
-      end = item-end w _ (e .taken .ensures) _ (k .comma .ensures) _ (f .taken2 .ensures) h (x .field .result) (x .field .ensures) (p .put-field .ensures) q;
-    }
+    item-done (p .before .before .before .loop .inv .1 .1) (e .turn-behind .ensures) (f .if1 .taken) (x .field .result) (x .field .ensures)
+    (p .put-field .ensures) (sym (c .before .took .ensures) ∙ c .if2 .left)
 
 pub put-fields-spec : {M : Type 1} → statement M
 put-fields-spec =
     tie.close
-    (tie.spec Inv-loop μ-loop loop-holds put-field-requires (λ c κs. search needs) add-j sub-comma part-comma-start (λ c. search needs) (λ c κs. search needs)
-    (λ c κs. search needs)
-    same-length same-length-2 returns (λ c κs. search needs) add-i sub-field part-field-start (λ c. search needs) (λ c κs. search needs) (λ c κs. search needs)
-    loop-less loop-again same-length-3 same-length-4 returns-2)
+    (tie.spec Inv-loop μ-loop loop-holds put-field-requires turn-behind-requires same-length same-length-2 returns sub-field sub-field (λ c. search needs)
+    (λ c κs. search needs) (λ c κs. search needs) loop-less loop-again same-length-3 same-length-4 returns-2)

@@ -1,6 +1,4 @@
-use mathlib.Core.Path.{ap, sym}
 use borrow.Author.Needs.{needs}
-use Rattle.field_rows.specs.Items.{condWord}
 use Rattle.field_rows.proofs.row_number.Statement.{statement}
 use Rattle.field_rows.proofs.row_number.Tie as tie
 

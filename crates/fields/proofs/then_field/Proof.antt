@@ -13,7 +13,7 @@ part-field-start c = took-le _ _ _ _ (c .before .before .before .before .pre) (c
 joined-requires : tie.Need-joined-requires
 joined-requires c κs = (
   took-le _ _ _ _ (c .before .before .before .before .before .before .pre) (c .before .before .before .m2 .given .1),
-  (at _ (now (c .before .before .before .before .before .before .args .s)) (c .field .ensures .reads)) .fits,
+  (at _ (now (c .before .before .before .before .before .before .args .s)) (c .field .ensures .drawn .reads)) .fits,
 )
 
 returns : tie.Need-returns
@@ -21,7 +21,7 @@ returns c = missed _ (c .before .before .before .before .pre) (c .before .m .giv
 
 returns-2 : tie.Need-returns-2
 returns-2 c = took _ _ (c .before .before .before .before .before .before .before .pre) (c .before .before .before .before .m2 .given .1)
-    (c .before .field .ensures .reads) (c .joined .ensures)
+    (c .before .field .ensures .drawn .reads) (c .joined .ensures)
 
 pub then-field-spec : {M : Type 1} → statement M
 then-field-spec =

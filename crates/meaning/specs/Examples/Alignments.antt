@@ -4,7 +4,7 @@ use Prim.Native.Nat.{ℕ}
 use mathlib.Core.Path.{refl}
 use mathlib.Core.List.{List, [], _∷_, _++_, map}
 use Rattle.meaning.specs.declared.Aligner.{Aligner}
-use Rattle.meaning.specs.Alignment.{World, world, sound, due, Call, add-bitfield, add-bytes, add-dyn-bytes, align, call, calls, numbers}
+use Rattle.meaning.specs.Alignment.{World, world, sound, due, Call, add-bitfield, add-bytes, add-dyn-bytes, align, call, calls, numbers, end-chunks}
 use Rattle.meaning.specs.Everything.{everything}
 use Rattle.meaning.specs.Papers.{blank-placed, blank-chunks, desk}
 use Rattle.meaning.specs.Examples.{Hold, _is_, _are_}
@@ -56,6 +56,8 @@ pub bytes-and-end : Hold (
     ∷ (answers (state 1 2 0 1) (add-bytes 0 8 ∷ add-dyn-bytes 0 ∷ align ∷ []) are 10 ∷ 10 ∷ 16 ∷ [])
     ∷ (answers (state 1 2 1 0) (add-bytes 0 8 ∷ add-bytes 0 9 ∷ add-bytes 0 72 ∷ add-dyn-bytes 0 ∷ align ∷ []) are 13 ∷ 11 ∷ 12 ∷ 13 ∷ 0 ∷ [])
     ∷ (answers (state 1 1 1 0) (add-bytes 0 8 ∷ add-dyn-bytes 0 ∷ align ∷ []) are 0 ∷ 0 ∷ 0 ∷ [])
+    -- the end's chunk count: 0 where it is refused with 16 or 18
+    ∷ (end-chunks (state 1 2 1 0) is 2) ∷ (end-chunks (state 1 1 1 0) is 1) ∷ (end-chunks (state 1 2 0 1) is 0) ∷ (end-chunks (state 1 2 2 0) is 0)
     ∷ [])
 unfolding everything
 bytes-and-end = refl

@@ -1,7 +1,7 @@
 use mathlib.Core.Path.{_∙_}
 use borrow.Author.Needs.{needs}
 use denote.Ref.{now}
-use Rattle.reading.specs.Accepts.{matched}
+use Rattle.reading.specs.Acceptance.{matched}
 use Rattle.reading.specs.OutcomeLaws.{refused-done, passed, short-done, accepted-done}
 use Rattle.reading.proofs.read.Statement.{statement}
 use Rattle.reading.proofs.read.Tie as tie

@@ -1,17 +1,16 @@
-use Prim.Native.Nat.{_+_, _-_, _≤_}
-use native.Mathlib.Omega.{arith}
+use Prim.Native.Nat.{_-_}
 use mathlib.Core.Path.{_≡_, refl, sym, _∙_}
 use borrow.Author.Needs.{needs}
 use lib.ListN.{length}
 use Rattle.meaning.specs.Tables.{Table}
 use Rattle.walk.specs.State.{lend}
-use Rattle.walk.specs.Lists.{Turning, turn-start, item-in, comma-done, comma-end, comma-in, item-done, item-end, item-more, item-less}
-use Rattle.tag_rows.specs.Tags.{tags}
+use Rattle.walk.specs.Lists.{Turning, turn-start, item-in, next-in, comma-done, item-done, item-more, item-less}
+use Rattle.tag_rows.specs.Tags.{tag-form}
 use Rattle.tag_rows.proofs.put_tags.Statement.{statement}
 use Rattle.tag_rows.proofs.put_tags.Tie as tie
 
 abbrev Inv-loop : tie.InvT-loop
-Inv-loop s at t₀ i₀ m₀ c₀ t i m c = (length t ≡ length t₀) × Turning tags s at m₀ (lend Table.tags t₀) i c m (lend Table.tags t)
+Inv-loop s at t₀ i₀ m₀ c₀ t i m c = (length t ≡ length t₀) × Turning tag-form s at m₀ (lend Table.tags t₀) i c m (lend Table.tags t)
 
 abbrev μ-loop : tie.MeasureT-loop
 μ-loop s at t₀ i₀ m₀ c₀ t i m c = length s - i
@@ -22,101 +21,57 @@ loop-holds c = let p = c .before .before .pre in (refl, turn-start (lend Table.t
 put-one-requires : tie.Need-put-one-requires Inv-loop μ-loop
 put-one-requires c κs = let w = c .before .loop .inv .1 in record { came = w .came; found = w .item }
 
-add-j : tie.Need-add-j Inv-loop μ-loop
-add-j c =
-    let l = c .before .before .before .before .before in
-    omega (arith, item-in (l .loop .inv .1) _ (c .taken .ensures), l .before .before .before .good)
-
-sub-comma : tie.Need-sub-comma Inv-loop μ-loop
-sub-comma c = let l = c .before .before .before .before .before in item-in (l .loop .inv .1) _ (c .taken .ensures)
-
-part-comma-start : tie.Need-part-comma-start Inv-loop μ-loop
-part-comma-start c = sub-comma c
+turn-behind-requires : tie.Need-turn-behind-requires Inv-loop μ-loop
+turn-behind-requires c κs = item-in (c .before .before .before .before .loop .inv .1)
 
 same-length : tie.Need-same-length Inv-loop μ-loop
-same-length c =
-    let p = c .before .before .before .before .before .before .before in
-    p .put-one .kept .1 .1 .1 .1 .0 ∙ p .before .before .loop .inv .0
+same-length c = let p = c .before .before .before .before in p .put-one .kept .1 .1 .1 .1 .0 ∙ p .before .before .loop .inv .0
 
 returns : tie.Need-returns Inv-loop μ-loop
 returns c =
-    let k = c .before .before in
-    let e = k .before .before in
+    let e = c .before in
     let p = e .before .before .before in
-    let w = p .before .before .loop .inv .1 in
-    let q = sym (c .before .took .ensures) ∙ c .if1 .left in
-    record {
-      all = comma-done w _ (e .taken .ensures) _ (k .comma .ensures) (p .put-one .ensures) q;
-      end = comma-end w _ (e .taken .ensures) _ (k .comma .ensures) (p .put-one .ensures) q;
-    }
-
-add-i : tie.Need-add-i Inv-loop μ-loop
-add-i c =
-    let k = c .before .before .before in
-    let e = k .before .before in
-    let l = e .before .before .before .before .before in
-    omega (arith, comma-in (l .loop .inv .1) _ (e .taken .ensures) _ (k .comma .ensures) _ (c .taken2 .ensures), l .before .before .before .good)
+    comma-done (p .before .before .loop .inv .1) (e .turn-behind .ensures) (p .put-one .ensures) (c .if1 .left)
 
 sub-enum-tag : tie.Need-sub-enum-tag Inv-loop μ-loop
-sub-enum-tag c =
-    let k = c .before .before .before in
-    let e = k .before .before in
-    let l = e .before .before .before .before .before in
-    comma-in (l .loop .inv .1) _ (e .taken .ensures) _ (k .comma .ensures) _ (c .taken2 .ensures)
-
-part-enum-tag-start : tie.Need-part-enum-tag-start Inv-loop μ-loop
-part-enum-tag-start c = sub-enum-tag c
+sub-enum-tag c = let e = c .before in next-in (e .before .before .before .before .before .loop .inv .1) (e .turn-behind .ensures)
 
 loop-less : tie.Need-loop-less Inv-loop μ-loop
 loop-less c =
     let x = c .before .before in
     let f = x .before .before in
-    let k = f .before .before .before in
-    let e = k .before .before in
-    let l = e .before .before .before .before .before in
-    let h = sym (f .before .before .took .ensures) ∙ f .before .if1 .taken in
-    item-less (l .loop .inv .1) _ (e .taken .ensures) _ (k .comma .ensures) _ (f .taken2 .ensures) h (x .enum-tag .result) (x .enum-tag .ensures)
-    (sym (c .before .took2 .ensures) ∙ c .if2 .taken)
+    let e = f .before in
+    item-less (e .before .before .before .before .before .loop .inv .1) (e .turn-behind .ensures) (f .if1 .taken) (x .enum-tag .result)
+    (x .enum-tag .ensures) (sym (c .before .took .ensures) ∙ c .if2 .taken)
 
 loop-again : tie.Need-loop-again Inv-loop μ-loop
 loop-again c =
     let x = c .before .before in
     let f = x .before .before in
-    let k = f .before .before .before in
-    let e = k .before .before in
+    let e = f .before in
     let p = e .before .before .before in
-    let l = p .before .before in
-    let h = sym (f .before .before .took .ensures) ∙ f .before .if1 .taken in (
+    let l = p .before .before in (
       p .put-one .kept .1 .1 .1 .1 .0 ∙ l .loop .inv .0,
-      item-more (l .loop .inv .1) _ (e .taken .ensures) _ (k .comma .ensures) _ (f .taken2 .ensures) h (x .enum-tag .result) (x .enum-tag .ensures)
-          (p .put-one .ensures) (sym (c .before .took2 .ensures) ∙ c .if2 .taken),
+      item-more (l .loop .inv .1) (e .turn-behind .ensures) (f .if1 .taken) (x .enum-tag .result) (x .enum-tag .ensures)
+          (sym (c .before .took .ensures) ∙ c .if2 .taken) (p .put-one .ensures),
     )
 
 same-length-2 : tie.Need-same-length-2 Inv-loop μ-loop
 same-length-2 c =
-    let p = c .before .before .before .before .before .before .before .before .before .before .before .before in
+    let p = c .before .before .before .before .before .before .before .before in
     p .put-one .kept .1 .1 .1 .1 .0 ∙ p .before .before .loop .inv .0
 
 returns-2 : tie.Need-returns-2 Inv-loop μ-loop
 returns-2 c =
     let x = c .before .before in
     let f = x .before .before in
-    let k = f .before .before .before in
-    let e = k .before .before in
+    let e = f .before in
     let p = e .before .before .before in
-    let w = p .before .before .loop .inv .1 in
-    let h = sym (f .before .before .took .ensures) ∙ f .before .if1 .taken in
-    let q = sym (c .before .took2 .ensures) ∙ c .if2 .left in
-    let m = x .enum-tag in
-    record {
-      all = item-done w _ (e .taken .ensures) _ (k .comma .ensures) _ (f .taken2 .ensures) h (m .result) (m .ensures) (p .put-one .ensures) q;
-      end = item-end w _ (e .taken .ensures) _ (k .comma .ensures) _ (f .taken2 .ensures) h (m .result) (m .ensures) (p .put-one .ensures) q;
-    }
+    item-done (p .before .before .loop .inv .1) (e .turn-behind .ensures) (f .if1 .taken) (x .enum-tag .result) (x .enum-tag .ensures)
+    (p .put-one .ensures) (sym (c .before .took .ensures) ∙ c .if2 .left)
 
 pub put-tags-spec : {M : Type 1} → statement M
 put-tags-spec =
     tie.close
-    (tie.spec Inv-loop μ-loop loop-holds put-one-requires (λ c κs. search needs) add-j sub-comma part-comma-start (λ c. search needs) (λ c κs. search needs)
-    (λ c κs. search needs)
-    same-length returns (λ c κs. search needs) add-i sub-enum-tag part-enum-tag-start (λ c. search needs) (λ c κs. search needs) (λ c κs. search needs)
-    loop-less loop-again same-length-2 returns-2)
+    (tie.spec Inv-loop μ-loop loop-holds put-one-requires turn-behind-requires same-length returns sub-enum-tag sub-enum-tag (λ c. search needs)
+    (λ c κs. search needs) (λ c κs. search needs) loop-less loop-again same-length-2 returns-2)

@@ -1,23 +1,15 @@
-use mathlib.Core.Path.{refl}
 use borrow.Author.Needs.{needs}
-use Rattle.meaning.specs.Rules.{Rule}
-use Rattle.meaning.specs.Pdl.{enum-other}
-use Rattle.grammar.specs.Drawing.{whole, then, noted, redrawn}
-use Rattle.spans.specs.Parts.{mark, name}
+use Rattle.spans.specs.declared.Tag.the-variants.{Other}
+use Rattle.tags.specs.Fronts.{other}
+use Rattle.tags.proofs.Laws.{tagged-is}
 use Rattle.tags.proofs.enum_other.Statement.{statement}
 use Rattle.tags.proofs.enum_other.Tie as tie
 
 returns : tie.Need-returns
-unfolding enum-other
 returns c =
-    let b = c .before .before .before in
-    redrawn
-    (noted Rule.enum-other refl
-    (whole (then (then (name (b .before .before .then-identifier .ensures)) (mark (b .next-literal .ensures))) (mark (c .before .next-literal2 .ensures)))))
-    (λ h o. rw (c .between .ensures))
+    let x = c .before in
+    tagged-is (Other _) (other (x .before .before .before .front .ensures) (x .then-literal .ensures)) (λ h. tt) (c .tagged .ensures)
 
 pub enum-other-spec : {M : Type 1} → statement M
 enum-other-spec =
-    tie.close
-    (tie.spec (λ c κs. search needs) (λ c. search needs) (λ c κs. search needs) (λ c. search needs) (λ c κs. search needs) (λ c κs. search needs)
-    returns)
+    tie.close (tie.spec (λ c κs. search needs) (λ c. search needs) (λ c κs. search needs) (λ c κs. search needs) returns)

@@ -1,44 +1,51 @@
-use mathlib.Core.Path.{refl}
 use borrow.Author.Needs.{needs}
-use Rattle.meaning.specs.Rules.{Rule}
-use Rattle.meaning.specs.Pdl.{enum-tag}
-use Rattle.grammar.specs.Drawing.{first, noted}
-use Rattle.tags.proofs.Laws.{tag-else}
+use mathlib.Core.Path.{refl}
+use Rattle.spans.specs.declared.Tag.the-variants.{Value, Range, Other}
+use Rattle.tags.specs.Fronts.{no-value, no-range, is-range}
+use Rattle.tags.proofs.Laws.{enumerated-is}
 use Rattle.tags.proofs.enum_tag.Statement.{statement}
 use Rattle.tags.proofs.enum_tag.Tie as tie
 
 returns : tie.Need-returns
-unfolding enum-tag
 returns c =
-    let told = c .enum-told .given .1 in
-    noted Rule.enum-tag refl (first _ _ (first _ _ (c .before .before .enum-range .ensures) told) told)
+    let e = c .before .before .before in
+    let l = e .before .before .before in
+    enumerated-is (Other _)
+    (no-value (l .before .before .front .ensures) (l .then-integer .ensures) refl _ (e .before .enum-told .given .1) (e .settle .ensures .is)
+    (c .before .then-literal .ensures))
+    (λ h. tt) (c .tagged .ensures)
 
 returns-2 : tie.Need-returns-2
-unfolding enum-tag
 returns-2 c =
-    let v = c .before .before .before in
-    let x = v .before .before in
-    noted Rule.enum-tag refl
-    (first _ _
-    (tag-else (v .enum-value .result .tag) _ (x .before .before .enum-range .ensures .reads) (x .x .given .1) (v .enum-value .ensures)
-    (c .before .before .joined .ensures))
-    (c .enum-told2 .given .1))
+    let e = c .before .before in
+    let h = e .before .before in
+    let d = h .before .before in
+    let v = d .before .before in
+    let l = v .before .before .before in
+    enumerated-is (Value _)
+    (no-range (l .before .before .front .ensures) (l .then-integer .ensures) (v .between .ensures) (d .next-literal .ensures)
+    (h .before .then-blanks .ensures) (h .then-integer2 .ensures) refl _ _ _ (v .before .enum-told2 .given .1) (e .enum-told3 .given .1)
+    (c .before .settle2 .ensures .is))
+    (λ h. tt) (c .tagged2 .ensures)
 
 returns-3 : tie.Need-returns-3
-unfolding enum-tag
 returns-3 c =
-    let o = c .before in
-    let at = o .before .before in
-    let v = at .before .before .before in
-    let x = v .before .before in
-    noted Rule.enum-tag refl
-    (tag-else (o .enum-other .result .tag) _
-    ((tag-else (v .enum-value .result .tag) _ (x .before .before .enum-range .ensures .reads) (x .x .given .1) (v .enum-value .ensures)
-    (at .before .before .joined .ensures)) .reads)
-    (at .at .given .1) (o .enum-other .ensures) (c .joined2 .ensures))
+    let i = c .before in
+    let e = i .before .before in
+    let h = e .before .before .before in
+    let d = h .before .before in
+    let v = d .before .before in
+    let l = v .before .before .before in
+    enumerated-is (Range _)
+    (is-range (l .before .before .front .ensures) (l .then-integer .ensures) (v .between .ensures) (d .next-literal .ensures)
+    (h .before .then-blanks .ensures) (h .then-integer2 .ensures) (e .between2 .ensures) _ _ (e .before .enum-told4 .given .1)
+    (i .before .then-blanks2 .ensures) (i .then-braces .ensures))
+    (λ h. i .then-braces .ensures .sound h) (c .tagged3 .ensures)
 
 pub enum-tag-spec : {M : Type 1} → statement M
 enum-tag-spec =
     tie.close
-    (tie.spec (λ c κs. search needs) (λ c. search needs) (λ c. search needs) returns (λ c κs. search needs) (λ c κs. search needs) (λ c. search needs)
-    (λ c. search needs) returns-2 (λ c κs. search needs) (λ c κs. search needs) returns-3)
+    (tie.spec (λ c κs. search needs) (λ c κs. search needs) (λ c. search needs) (λ c κs. search needs) (λ c. search needs) (λ c κs. search needs)
+    (λ c κs. search needs) returns (λ c. search needs) (λ c κs. search needs) (λ c. search needs) (λ c κs. search needs) (λ c κs. search needs)
+    (λ c κs. search needs) (λ c. search needs) (λ c κs. search needs) (λ c κs. search needs) returns-2 (λ c. search needs) (λ c κs. search needs)
+    (λ c κs. search needs) (λ c κs. search needs) (λ c κs. search needs) returns-3)

@@ -14,7 +14,7 @@ joined-requires : tie.Need-joined-requires
 joined-requires c κs =
     let b = c .before .before .before in
     let s = b .before .before .before in
-    (took-le _ _ _ _ (s .pre) (b .m2 .given .1), (at _ (now (s .args .s)) (c .enum-tag .ensures .reads)) .fits)
+    (took-le _ _ _ _ (s .pre) (b .m2 .given .1), (at _ (now (s .args .s)) (c .enum-tag .ensures .drawn .reads)) .fits)
 
 returns : tie.Need-returns
 returns c = missed _ (c .before .before .before .before .pre) (c .before .m .given .1)
@@ -22,7 +22,7 @@ returns c = missed _ (c .before .before .before .before .pre) (c .before .m .giv
 returns-2 : tie.Need-returns-2
 returns-2 c =
     let b = c .before .before .before .before in
-    took _ _ (b .before .before .before .pre) (b .m2 .given .1) (c .before .enum-tag .ensures .reads) (c .joined .ensures)
+    took _ _ (b .before .before .before .pre) (b .m2 .given .1) (c .before .enum-tag .ensures .drawn .reads) (c .joined .ensures)
 
 pub then-enum-tag-spec : {M : Type 1} → statement M
 then-enum-tag-spec =

@@ -1,8 +1,9 @@
 //! Sequences of calls, on the port and on the unchanged Rust.
 
-use crate::tables::{old, written, Words};
+use crate::both::Both;
+use crate::tables::{old, put, written, Words};
 use host::aligner::{Aligner, Call, Room};
-use host::port;
+use host::port::{self, State};
 use host::sources::Rng;
 use host::tally::Seen;
 
@@ -91,22 +92,27 @@ pub fn need(calls: &[Call]) -> Room {
     Room { placed: state.placed.len(), chunks: state.chunks.len() }
 }
 
-/// Makes the calls on both, over tables of so many words, and holds them together after each.
+/// Makes the calls on the oracle and on both forms of the port, over tables of so many words, and
+/// holds them together after each.
 pub fn compare(calls: &[Call], words: Words, seen: &mut Seen) {
-    let mut port = port::Aligner::new(old(words.placed), old(words.chunks));
+    let mut port = Both::of(port::Aligner::new(old(words.placed), old(words.chunks)));
     let mut oracle = Aligner::new(words.room());
-    compare_end(&port, &oracle, seen);
+    compare_end(&mut port, &oracle, seen);
     for call in calls {
         note_wrapped(&oracle, *call, seen);
         let number = oracle.call(*call).map_or_else(|number| number, |()| 0);
         assert_eq!(port.call(*call), number, "{call:?} of {calls:?} over {words:?}");
         seen.note(CALL, number);
-        assert_eq!(port, told(&oracle, words), "after {call:?} of {calls:?} over {words:?}");
-        compare_end(&port, &oracle, seen);
+        compare_end(&mut port, &oracle, seen);
+        assert_eq!(
+            *port.left(),
+            told(&oracle, words),
+            "after {call:?} of {calls:?} over {words:?}"
+        );
     }
 }
 
-fn compare_end(port: &port::Aligner, oracle: &Aligner, seen: &mut Seen) {
+fn compare_end(port: &mut Both, oracle: &Aligner, seen: &mut Seen) {
     let end = oracle.end();
     assert_eq!(port.end(), end, "the end of {port:?}");
     seen.note(END, end.map_or_else(|number| number, |_| 0));
@@ -124,87 +130,114 @@ fn note_wrapped(oracle: &Aligner, call: Call, seen: &mut Seen) {
 fn told(oracle: &Aligner, words: Words) -> port::Aligner {
     let state = oracle.state();
     port::Aligner {
-        state: [
-            state.placed.len() as u64,
-            state.chunks.len() as u64,
-            state.staged_start as u64,
-            state.staged_width,
-        ],
+        state: State {
+            placed: state.placed.len(),
+            chunks: state.chunks.len(),
+            start: state.staged_start,
+            width: state.staged_width,
+        },
         placed: written(words.placed, &state.placed),
         chunks: written(words.chunks, &state.chunks),
     }
 }
 
-/// Calls on a state of any words. The Rust has no such states, so the numbers are 01's.
+/// Calls on a state of any words. The Rust has no such states, so the numbers, and every word that
+/// is left, are 01's.
 pub fn compare_state(rng: &mut Rng, seen: &mut Seen) {
     let words = Words { placed: rng.below(13), chunks: rng.below(21) };
-    let state = any_state(rng, words.room());
-    let width = state[3];
-    let mut port = port::Aligner::new(old(words.placed), old(words.chunks));
-    port.state = state;
-    let before = port.clone();
-    let call = any_call(rng, width, 7);
-    let number = wanted(state, words.room(), call);
-    let end = wanted_end(state, words.room());
-    assert_eq!(port.end().map_or_else(|number| number, |_| 0), end, "the end of {before:?}");
+    let mut before = port::Aligner::new(old(words.placed), old(words.chunks));
+    before.state = any_state(rng, words.room());
+    let call = any_call(rng, before.state.width, 7);
+    let number = wanted(before.state, words.room(), call);
+    let end = wanted_end(before.state, words.room());
+    let mut port = Both::of(before.clone());
+    assert_eq!(port.end(), end, "the end of {before:?}");
+    assert_eq!(*port.left(), before, "the end of {before:?}");
     assert_eq!(port.call(call), number, "{call:?} on {before:?}");
-    assert_eq!(port == before, number != 0, "{call:?} on {before:?}");
+    assert_eq!(*port.left(), left(&before, call, number), "{call:?} on {before:?}");
     seen.note(STATE, number);
-    seen.note(STATE, end);
+    seen.note(STATE, end.map_or_else(|number| number, |_| 0));
 }
 
 /// A state that is often sound: each word is seldom above what its table or the others allow.
-fn any_state(rng: &mut Rng, room: Room) -> [u64; 4] {
-    let up_to = |most: u64, rng: &mut Rng| match rng.below(12) {
+fn any_state(rng: &mut Rng, room: Room) -> State {
+    let up_to = |most: usize, rng: &mut Rng| match rng.below(12) {
         0 => most + 1,
-        1 => u64::MAX,
-        _ => rng.below(most as usize + 1) as u64,
+        1 => usize::MAX,
+        _ => rng.below(most + 1),
     };
-    let placed = up_to(room.placed as u64, rng);
-    let start = up_to(placed.min(room.placed as u64), rng);
-    let chunks = up_to(room.chunks as u64, rng);
+    let placed = up_to(room.placed, rng);
+    let start = up_to(placed.min(room.placed), rng);
+    let chunks = up_to(room.chunks, rng);
     let width = match start < placed {
         true => rng.pick(&[0, 1, 3, 7, 8, 16, 62, 63, 63, 64]),
         false => rng.pick(&[0, 0, 0, 0, 1, 8]),
     };
-    [placed, chunks, start, width]
+    State { placed, chunks, start, width }
 }
 
 /// 01's number for a call.
-fn wanted([placed, chunks, start, width]: [u64; 4], room: Room, call: Call) -> u64 {
-    let full = |rows: u64, room: usize| rows >= room as u64;
-    let staged = start < placed;
+fn wanted(state: State, room: Room, call: Call) -> u64 {
+    let State { placed, chunks, start, width } = state;
     match call {
-        _ if contradicts([placed, chunks, start, width], room) => 18,
-        Call::Bits { width: more, .. } => {
-            let total = u128::from(width) + u128::from(more);
-            let due = total > 0 && total % 8 == 0;
-            match total {
-                65.. => 12,
-                _ if full(placed, room.placed) || (due && full(chunks, room.chunks)) => 13,
-                _ => 0,
-            }
-        }
-        _ if staged => 10,
+        _ if contradicts(state, room) => 18,
+        Call::Bits { width: more, .. } => match u128::from(width) + u128::from(more) {
+            65.. => 12,
+            _ if placed >= room.placed => 13,
+            total if is_due(total as u64) && chunks >= room.chunks => 13,
+            _ => 0,
+        },
+        _ if start < placed => 10,
         Call::Bytes { width, .. } if width % 8 > 0 => 11,
         Call::Bytes { width, .. } if width > 64 => 12,
-        _ if full(chunks, room.chunks) => 13,
+        _ if chunks >= room.chunks => 13,
         _ => 0,
     }
 }
 
-fn wanted_end(state: [u64; 4], room: Room) -> u64 {
+/// 01's answer for the end.
+fn wanted_end(state: State, room: Room) -> Result<u64, u64> {
     match state {
-        _ if contradicts(state, room) => 18,
-        [placed, _, start, _] if start < placed => 16,
-        _ => 0,
+        _ if contradicts(state, room) => Err(18),
+        _ if state.start < state.placed => Err(16),
+        _ => Ok(state.chunks as u64),
     }
 }
 
-fn contradicts([placed, chunks, start, width]: [u64; 4], room: Room) -> bool {
+fn contradicts(State { placed, chunks, start, width }: State, room: Room) -> bool {
     width > 63
         || start > placed
-        || placed > room.placed as u64
-        || chunks > room.chunks as u64
+        || placed > room.placed
+        || chunks > room.chunks
         || (width > 0 && start == placed)
+}
+
+/// Whether a total becomes a chunk.
+fn is_due(total: u64) -> bool {
+    total > 0 && total.is_multiple_of(8)
+}
+
+/// What 01 says that a call leaves which was answered with a number.
+fn left(before: &port::Aligner, call: Call, number: u64) -> port::Aligner {
+    let mut after = before.clone();
+    let State { placed, chunks, start, width } = before.state;
+    let chunk = match call {
+        _ if number != 0 => None,
+        Call::Bytes { symbol, width } => Some([2, 0, 0, width, symbol]),
+        Call::Dynamic { symbol } => Some([3, 0, 0, 0, symbol]),
+        Call::Bits { symbol, width: more } => {
+            let (next, total) = (placed + 1, width + more);
+            put(&mut after.placed, placed, [symbol, more, width]);
+            let due = is_due(total);
+            after.state.placed = next;
+            after.state.start = if due { next } else { start };
+            after.state.width = if due { 0 } else { total };
+            due.then_some([1, start as u64, (next - start) as u64, total, 0])
+        }
+    };
+    if let Some(row) = chunk {
+        put(&mut after.chunks, chunks, row);
+        after.state.chunks = chunks + 1;
+    }
+    after
 }

@@ -1,6 +1,7 @@
-//! Compares the port's aligner and its feeding with the oracle: every answer, every word of the
-//! state and every word of the tables.
+//! Compares both forms of the port's aligner, and its feeding, with the oracle: every answer, every
+//! word of the state and every word of the tables.
 
+mod both;
 mod calls;
 mod feedings;
 mod readings;

@@ -44,3 +44,8 @@ pub fn written<const N: usize>(words: usize, rows: &[[u64; N]]) -> Vec<u64> {
     table[..rows.len() * N].copy_from_slice(rows.as_flattened());
     table
 }
+
+/// Writes a row into a table that has room for it.
+pub fn put<const N: usize>(table: &mut [u64], at: usize, row: [u64; N]) {
+    table[at * N..(at + 1) * N].copy_from_slice(&row);
+}

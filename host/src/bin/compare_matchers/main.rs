@@ -1,8 +1,6 @@
-//! Compares the port's matcher of every rule with pest's on parts of sources, and its UTF-8 test
-//! and converter with the oracle's.
+//! Compares the port's matcher of every rule with pest's on parts of sources.
 
 mod matchers;
-mod texts;
 
 use host::cases;
 use host::parser::Rule;
@@ -29,7 +27,6 @@ fn main() -> ExitCode {
     generated(asked, &mut matchers);
     short(&mut matchers);
     matchers.finish(asked.count);
-    texts::check(asked, &mut tally);
     tally.verdict()
 }
 

@@ -6,17 +6,19 @@ use Rattle.grammar.specs.Drawing.{whole, then, retold}
 use Rattle.lexis.specs.Leaves.{CHECKSUM-leaf}
 use Rattle.spans.specs.Parts.{gap, mark, name, number, quoted}
 use Rattle.declarations.specs.Headers.{checksum-head}
-use Rattle.declarations.specs.HeadParts.{word}
+use Rattle.declarations.specs.HeadParts.{word, headed}
 use Rattle.declarations.proofs.headers.checksum_head.Statement.{statement}
 use Rattle.declarations.proofs.headers.checksum_head.Tie as tie
 
 returns : tie.Need-returns
 unfolding checksum-head CHECKSUM
 returns c =
-    let b = c .before .before .before in
+    let k = c .before in
+    let b = k .before .before .before in
     let a = b .before .before .before in
     let d = a .before .before .before .before in
-    whole
+    headed _
+    (whole
     (retold
     (then
     (then
@@ -26,11 +28,12 @@ returns c =
     (mark (a .before .before .next-literal .ensures)))
     (then (gap (a .before .then-blanks2 .ensures)) (number (a .then-integer .ensures))))
     (then (gap (b .before .before .then-blanks3 .ensures)) (quoted (b .before .then-string .ensures))))
-    (λ h o. rw (b .between .ensures, (c .before .before .between2 .ensures), (c .before .between3 .ensures), (c .between4 .ensures))))
+    (λ h o. rw (b .between .ensures, (k .before .before .between2 .ensures), (k .before .between3 .ensures), (k .between4 .ensures)))))
+    (λ h. tt) (c .kept-header .ensures)
 
 pub checksum-head-spec : {M : Type 1} → statement M
 checksum-head-spec =
     tie.close
     (tie.spec (λ c. search needs) (λ c κs. search needs) (λ c κs. search needs) (λ c κs. search needs) (λ c. search needs) (λ c κs. search needs)
     (λ c κs. search needs) (λ c κs. search needs) (λ c κs. search needs) (λ c κs. search needs) (λ c κs. search needs) (λ c κs. search needs)
-    (λ c κs. search needs) (λ c κs. search needs) returns)
+    (λ c κs. search needs) (λ c κs. search needs) (λ c κs. search needs) returns)

@@ -6,19 +6,22 @@ use Rattle.grammar.specs.Drawing.{whole, then, retold}
 use Rattle.lexis.specs.Leaves.{CUSTOM-FIELD-leaf}
 use Rattle.spans.specs.Parts.{gap, sign, name, number, quoted}
 use Rattle.declarations.specs.Headers.{custom-head}
-use Rattle.declarations.specs.HeadParts.{word, kept-token}
+use Rattle.declarations.specs.HeadParts.{word, headed}
+use Rattle.spans.specs.Kept.{kept-token}
 use Rattle.declarations.proofs.headers.custom_field_head.Statement.{statement}
 use Rattle.declarations.proofs.headers.custom_field_head.Tie as tie
 
 returns : tie.Need-returns
 unfolding custom-head CUSTOM-FIELD
 returns c =
-    let b = c .before .before .before in
+    let k = c .before in
+    let b = k .before .before .before in
     let a = b .before .before .before in
     let d = a .before .before .before in
     let e = d .before .before .before in
     let f = e .before .before .before in
-    whole
+    headed _
+    (whole
     (retold
     (then
     (then
@@ -27,13 +30,14 @@ returns c =
     (then (gap (e .then-blanks2 .ensures))
     (kept-token Rule.integer (e .then-blanks2 .ensures .fits)
     (then (sign (d .before .then-literal .ensures)) (then (gap (d .then-blanks3 .ensures)) (number (a .before .before .then-integer .ensures))))
-    (a .before .settle .ensures .is) (c .before .kept-part .ensures) (c .before .before .between3 .ensures))))
+    (a .before .settle .ensures .is) (k .before .kept-part .ensures) (k .before .before .between3 .ensures))))
     (then (gap (a .then-blanks4 .ensures)) (quoted (b .before .before .then-string .ensures))))
-    (λ h o. rw (b .before .between .ensures, (b .between2 .ensures), (c .between4 .ensures))))
+    (λ h o. rw (b .before .between .ensures, (b .between2 .ensures), (k .between4 .ensures)))))
+    (λ h. tt) (c .kept-header .ensures)
 
 pub custom-field-head-spec : {M : Type 1} → statement M
 custom-field-head-spec =
     tie.close
     (tie.spec (λ c. search needs) (λ c κs. search needs) (λ c κs. search needs) (λ c κs. search needs) (λ c κs. search needs) (λ c. search needs)
     (λ c κs. search needs) (λ c κs. search needs) (λ c κs. search needs) (λ c κs. search needs) (λ c κs. search needs) (λ c κs. search needs)
-    (λ c κs. search needs) (λ c κs. search needs) (λ c κs. search needs) (λ c κs. search needs) (λ c κs. search needs) returns)
+    (λ c κs. search needs) (λ c κs. search needs) (λ c κs. search needs) (λ c κs. search needs) (λ c κs. search needs) (λ c κs. search needs) returns)

@@ -3,22 +3,29 @@ use Rattle.grammar.specs.Nodes.{nil-right}
 use Rattle.grammar.specs.Drawing.{whole, then, retold}
 use Rattle.meaning.specs.Rules.{Rule}
 use Rattle.spans.specs.Parts.{gap, sign, mark, name}
-use Rattle.declarations.specs.HeadParts.{kept-token, kept-list}
+use Rattle.spans.specs.Kept.{kept-token, kept-list, before-hit}
+use Rattle.declarations.specs.HeadParts.{headed}
 use Rattle.declarations.proofs.headers.parent_head.Statement.{statement}
 use Rattle.declarations.proofs.headers.parent_head.Tie as tie
 
 returns : tie.Need-returns
 returns c =
-    let b = c .before .before .before in
+    let k = c .before in
+    let b = k .before .before .before in
     let a = b .before .before .before in
     let d = a .before .before .before in
     let e = d .before .before .before in
     let f = e .before .before .before in
     let g = f .before .before .before in
     let i = g .before .before .before in
+    let list =
+    kept-list (f .then-blanks4 .ensures .fits) (sign (e .before .then-literal2 .ensures)) (gap (e .then-blanks5 .ensures))
+    (d .before .before .then-constraint-list .ensures) (mark (d .next-literal .ensures)) (a .before .before .settle2 .ensures .is)
+    (k .kept-part2 .ensures) (k .before .between4 .ensures) in
     record {
       heads = λ w z q.
-          whole
+          headed _
+          (whole
           (retold
           (then
           (then
@@ -26,13 +33,11 @@ returns c =
           (then (gap (i .then-blanks2 .ensures))
           (kept-token Rule.identifier (i .then-blanks2 .ensures .fits)
           (then (sign (g .before .then-literal .ensures)) (then (gap (g .then-blanks3 .ensures)) (name (f .before .before .then-identifier2 .ensures))))
-          (f .before .settle .ensures .is) (c .before .before .kept-part .ensures) (b .between3 .ensures))))
-          (then (gap (f .then-blanks4 .ensures))
-          (kept-list (f .then-blanks4 .ensures .fits) (sign (e .before .then-literal2 .ensures)) (gap (e .then-blanks5 .ensures))
-          (d .before .before .then-constraint-list .ensures)
-          (mark (d .next-literal .ensures)) (a .before .before .settle2 .ensures .is) (c .kept-part2 .ensures) (c .before .between4 .ensures))))
+          (f .before .settle .ensures .is) (k .before .before .kept-part .ensures) (b .between3 .ensures))))
+          (then (gap (f .then-blanks4 .ensures)) (list .drawn)))
           (mark (a .next-literal2 .ensures)))
-          (λ h o. rw (b .before .before .between .ensures, (b .before .between2 .ensures), nil-right)));
+          (λ h o. rw (b .before .before .between .ensures, (b .before .between2 .ensures), nil-right))))
+          (λ h. list .sound (before-hit (a .next-literal2 .ensures) h)) (c .kept-header .ensures);
     }
 
 pub parent-head-spec : {M : Type 1} → statement M
@@ -41,4 +46,5 @@ parent-head-spec =
     (tie.spec (λ c κs. search needs) (λ c κs. search needs) (λ c κs. search needs) (λ c. search needs) (λ c κs. search needs) (λ c κs. search needs)
     (λ c κs. search needs) (λ c κs. search needs) (λ c κs. search needs) (λ c. search needs) (λ c κs. search needs) (λ c κs. search needs)
     (λ c κs. search needs) (λ c. search needs) (λ c κs. search needs) (λ c κs. search needs) (λ c. search needs) (λ c κs. search needs)
-    (λ c κs. search needs) (λ c κs. search needs) (λ c κs. search needs) (λ c κs. search needs) (λ c κs. search needs) (λ c κs. search needs) returns)
+    (λ c κs. search needs) (λ c κs. search needs) (λ c κs. search needs) (λ c κs. search needs) (λ c κs. search needs) (λ c κs. search needs)
+    (λ c κs. search needs) returns)

@@ -9,16 +9,19 @@ use Rattle.meaning.specs.Choice.{pick}
 use mathlib.Core.Path.{refl, ap, _∙_}
 use Rattle.meaning.specs.Peg.{hit}
 use Rattle.meaning.specs.Pdl.{payload-field}
+use Rattle.fields.specs.Kinds.{told}
 use Rattle.fields.proofs.kinds.payload_field.Statement.{statement}
 use Rattle.fields.proofs.kinds.payload_field.Tie as tie
 
 returns : tie.Need-returns
 unfolding payload-field
 returns c =
-    let b = c .before .before .before in
+    let k = c .before in
+    let b = k .before .before .before in
     let a = b .before .before .before in
     let d = a .before .before .before in
-    noted Rule.payload-field refl
+    told (c .described .ensures)
+    (noted Rule.payload-field refl
     (whole
     (then (sign (from-start (d .before .literal .ensures)))
     (then (gap (d .then-blanks .ensures))
@@ -27,11 +30,13 @@ returns c =
     (then (then (sign (a .before .then-literal .ensures)) (mark (a .next-byte .ensures)))
     (then (gap (b .before .before .then-blanks2 .ensures)) (modifier (b .before .then-size-modifier .ensures))))
     (mark (b .next-byte2 .ensures)))
-    (c .before .before .settle .ensures .is)
-    ((c .kept-part .ensures) ∙ ap (λ (i : Span). pick (hit (b .next-byte2 .result)) (Here i) Absent) (c .before .between .ensures))))))
+    (k .before .before .settle .ensures .is)
+    ((k .kept-part .ensures) ∙ ap (λ (i : Span). pick (hit (b .next-byte2 .result)) (Here i) Absent) (k .before .between .ensures)))))))
+    (λ h. tt)
 
 pub payload-field-spec : {M : Type 1} → statement M
 payload-field-spec =
     tie.close
     (tie.spec (λ c. search needs) (λ c κs. search needs) (λ c κs. search needs) (λ c. search needs) (λ c κs. search needs) (λ c κs. search needs)
-    (λ c κs. search needs) (λ c κs. search needs) (λ c κs. search needs) (λ c κs. search needs) (λ c κs. search needs) (λ c κs. search needs) returns)
+    (λ c κs. search needs) (λ c κs. search needs) (λ c κs. search needs) (λ c κs. search needs) (λ c κs. search needs) (λ c κs. search needs)
+    (λ c κs. search needs) returns)

@@ -4,16 +4,22 @@ use Rattle.spans.specs.Parts.{mark, name}
 use Rattle.meaning.specs.Rules.{Rule}
 use mathlib.Core.Path.{refl}
 use Rattle.meaning.specs.Pdl.{scalar-field}
+use Rattle.fields.specs.Kinds.{told}
 use Rattle.fields.proofs.kinds.scalar_field.Statement.{statement}
 use Rattle.fields.proofs.kinds.scalar_field.Tie as tie
 
 returns : tie.Need-returns
 unfolding scalar-field
-returns c = noted Rule.scalar-field refl
-    (redrawn (whole (then (then (name (c .before .before .before .before .then-identifier .ensures)) (mark (c .before .before .before .next-byte .ensures)))
-    (c .before .before .next-number .ensures))) (λ h o. rw (c .between .ensures)))
+returns c =
+    let n = c .before .before .before in
+    told (c .described .ensures)
+    (noted Rule.scalar-field refl
+    (redrawn
+    (whole (then (then (name (n .before .before .then-identifier .ensures)) (mark (n .before .next-byte .ensures))) (n .next-number .ensures .drawn)))
+    (λ h o. rw (c .before .between .ensures))))
+    (λ h. tt)
 
 pub scalar-field-spec : {M : Type 1} → statement M
 scalar-field-spec =
     tie.close
-    (tie.spec (λ c κs. search needs) (λ c κs. search needs) (λ c κs. search needs) (λ c κs. search needs) returns)
+    (tie.spec (λ c κs. search needs) (λ c κs. search needs) (λ c κs. search needs) (λ c κs. search needs) (λ c κs. search needs) returns)

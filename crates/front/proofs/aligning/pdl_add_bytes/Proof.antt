@@ -1,17 +1,24 @@
--- `pdl_add_bytes` meets its contract: the aligner's call on the state that the words say.
-use Rattle.meaning.specs.Alignment.{add-bytes}
-use Rattle.front.proofs.Laws.{called-on}
-use borrow.Author.Needs.{needs}
-use Rattle.front.proofs.aligning.pdl_add_bytes.Statement.{statement}
-use Rattle.front.proofs.aligning.pdl_add_bytes.Tie as tie
+-- `pdl_add_bytes` meets its contract: the walk of `HandWalk.antt` over words, at `byte_aligner::add_bytes`.
+use mir.Syntax.{w64, tyInt}
+use contract.Running.{givenOf, tables, tablesOf}
+use denote.Builtin.{u64}
+use denote.Triple.Spec.{tripleOf}
+use denote.Triple.Table.{entered, cited}
+use Rattle.front.proofs.HandWalk.{hands-adding}
+use Rattle.byte_aligner.proofs.add_bytes.Symbol as core-def
+use Rattle.byte_aligner.proofs.add_bytes.Symbol.{name as #byte-aligner·add-bytes}
+use Rattle.byte_aligner.proofs.add_bytes.Met as core-thm
+use Rattle.front.proofs.aligning.pdl_add_bytes.Key.{name as #pdl-add-bytes}
+use Rattle.front.proofs.aligning.pdl_add_bytes as f
+use Rattle.front.proofs.aligning.pdl_add_bytes.Statement as stated
+use Rattle.front.proofs.aligning.pdl_add_bytes.Code as code
 
-returns : tie.Need-returns
-returns c =
-    let a = c .before .before .before .before .before .before in
-    let s = a .before .before .before in
-    called-on (add-bytes _ _) _ _ _ _ _ _ _ _ (s .state-of .ensures) (a .add-bytes .ensures) (c .words-of .ensures)
-
-pub pdl-add-bytes-spec : {M : Type 1} → statement M
-pdl-add-bytes-spec =
-    tie.close
-    (tie.spec (λ c κs. search needs) (λ c κs. search needs) (λ c κs. search needs) (λ c. search needs) (λ c. search needs) returns)
+pub pdl-add-bytes-spec : {M : Type 1} → stated.statement M
+unfolding code.routine tablesOf
+pdl-add-bytes-spec 𝓤 H 𝓜 𝓖 𝓡 =
+    entered 𝓤 H (tripleOf 𝓤 H (𝓖 .A) f.signature (f.spec 𝓤 H (𝓖 .A) (𝓜 .mem) (𝓡 .run)))
+    (tables 𝓤 H 𝓜 𝓡 code.env .C) (tables 𝓤 H 𝓜 𝓡 code.env .Λ) #pdl-add-bytes code.function (code.unfolded 𝓤 H 𝓜 𝓡)
+    (hands-adding 𝓤 H (𝓖 .A) (givenOf 𝓤 H 𝓜 𝓖) u64 (tyInt w64) 2 #byte-aligner·add-bytes (f.spec 𝓤 H (𝓖 .A) (𝓜 .mem) (𝓡 .run))
+    (tablesOf 𝓤 H 𝓜 (tables 𝓤 H 𝓜 𝓡 code.env))
+    (cited 𝓤 H (tripleOf 𝓤 H (𝓖 .A) f.signature (f.spec 𝓤 H (𝓖 .A) (𝓜 .mem) (𝓡 .run))) 𝓜 𝓡 code.env #byte-aligner·add-bytes core-def.routine
+    code.calls-byte-aligner·add-bytes (core-thm.met 𝓤 H 𝓜 𝓖 𝓡)))

@@ -5,7 +5,7 @@ use Rattle.front.proofs.matching.field.Statement.{statement}
 use Rattle.front.proofs.matching.field.Tie as tie
 
 returns-2 : tie.Need-returns-2
-returns-2 c = numbered 48 (c .before .match .keys1) (c .field .ensures .reads)
+returns-2 c = numbered 48 (c .before .match .keys1) (c .field .ensures .drawn .reads)
 
 returns-3 : tie.Need-returns-3
 returns-3 c = numbered 49 (c .before .match .keys2) (c .field-list .ensures)

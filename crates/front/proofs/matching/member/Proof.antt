@@ -17,7 +17,7 @@ returns-5 : tie.Need-returns-5
 returns-5 c = numbered 31 (c .before .match .keys4) (c .enum-declaration .ensures)
 
 returns-6 : tie.Need-returns-6
-returns-6 c = numbered 32 (c .before .match .keys5) (c .constraint .ensures .reads)
+returns-6 c = numbered 32 (c .before .match .keys5) (c .constraint .ensures .drawn .reads)
 
 returns-7 : tie.Need-returns-7
 returns-7 c = numbered 33 (c .before .match .keys6) (c .constraint-list .ensures)

@@ -1,6 +1,5 @@
 use borrow.Author.Needs.{needs}
-use Rattle.reading.specs.Reaching.{walk-ready}
-use Rattle.reading.specs.Walks.{walked-file}
+use Rattle.reading.specs.Walks.{walk-ready, walked-file}
 use Rattle.reading.proofs.files.put_file.Statement.{statement}
 use Rattle.reading.proofs.files.put_file.Tie as tie
 
