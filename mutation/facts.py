@@ -19,8 +19,7 @@ KINDS = (
 HEAD = """# Edits and the facts that refuse them
 
 For each wrong edit that is written by hand: what it tries, and the fact that is refused first. Those marked G are tried at every run of
-the gate, the others by `./mutants`. `./mutants --count 0 --verbose | mutation/facts.py` makes this page; it was last made of one run over
-all crates.
+the gate, the others by `./mutants`. `./mutants --count 0 --verbose | mutation/facts.py` makes this page.
 """
 
 
@@ -59,7 +58,8 @@ def main():
             cells = f"`{edit['name']}`", mark, done_by(**edit.groupdict()), fact_of(after)
             rows.setdefault(edit["crate"], []).append(f"| {' | '.join(cells)} |")
     print(HEAD)
-    for crate in rows:
+    order = [line.split(":")[0] for line in (TOP / "crates.txt").read_text(encoding="utf-8").split("\n")]
+    for crate in sorted(rows, key=order.index):
         print(f"## `{crate}`\n\n| edit | | what it tries | first refused |\n|---|---|---|---|", *sorted(rows[crate]), "", sep="\n")
     return 0 if rows else 1
 
