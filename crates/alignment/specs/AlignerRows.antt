@@ -34,8 +34,8 @@ abbrev pub placed-fields : ByteAligner → List Field
 placed-fields b = fields (b .chunks) ++ b .staged-fields
 
 -- the state and the tables that an aligner leaves of tables that came as ps and cs
-unfoldable pub told : List ℕ → List ℕ → ByteAligner → World
-told ps cs b =
+unfoldable pub image : List ℕ → List ℕ → ByteAligner → World
+image ps cs b =
     world
     (record {
       placed = length (placed-fields b);
@@ -106,17 +106,17 @@ module _ (ps cs : List ℕ) (b : ByteAligner) where
     abbrev field : Field
     field = record { symbol = s; width = v; offset = b .staged-width }
 
-    pub told-field : world (record { placed = n + 1; chunks = m; start = first; width = b .staged-width + v }) (put placed-size n (words field) ps′) cs′
-        ≡ told ps cs (push-field s v b)
-    unfolding told
-    told-field =
+    pub image-field : world (record { placed = n + 1; chunks = m; start = first; width = b .staged-width + v }) (put placed-size n (words field) ps′) cs′
+        ≡ image ps cs (push-field s v b)
+    unfolding image
+    image-field =
         rw (← append-assoc (fields (b .chunks)) (b .staged-fields) (field ∷ []), length-next (placed-fields b) field, next-field (placed-fields b) field ps)
 
-    pub told-commit : world (record { placed = n + 1; chunks = m + 1; start = n + 1; width = 0 })
+    pub image-commit : world (record { placed = n + 1; chunks = m + 1; start = n + 1; width = 0 })
         (put placed-size n (words field) ps′) (put chunk-size m (chunk-words 1 first (n + 1 - first) (b .staged-width + v) 0) cs′)
-        ≡ told ps cs (commit (push-field s v b))
-    unfolding told
-    told-commit =
+        ≡ image ps cs (commit (push-field s v b))
+    unfolding image
+    image-commit =
         let fs = b .staged-fields ++ (field ∷ []) in
         let e : n + 1 - first ≡ length fs = simp length-append (omega arith) in
         rw (
@@ -130,9 +130,9 @@ module _ (ps cs : List ℕ) (b : ByteAligner) where
           e,
         )
 
-  pub told-chunk : (c : Chunk) (r : List ℕ) → fields (c ∷ []) ≡ [] → chunk-rows first (c ∷ []) ≡ r ∷ []
-      → world (record { placed = n; chunks = m + 1; start = first; width = b .staged-width }) ps′ (put chunk-size m r cs′) ≡ told ps cs (push-chunk c b)
-  unfolding told
-  told-chunk c r h e =
+  pub image-chunk : (c : Chunk) (r : List ℕ) → fields (c ∷ []) ≡ [] → chunk-rows first (c ∷ []) ≡ r ∷ []
+      → world (record { placed = n; chunks = m + 1; start = first; width = b .staged-width }) ps′ (put chunk-size m r cs′) ≡ image ps cs (push-chunk c b)
+  unfolding image
+  image-chunk c r h e =
       let g : fields (b .chunks ++ (c ∷ [])) ≡ fields (b .chunks) = fields-append (b .chunks) (c ∷ []) ∙ rw h (append-nil (fields (b .chunks))) in
       rw (g, length-next (b .chunks) c, next-chunk (b .chunks) c r cs e)

@@ -9,7 +9,7 @@ use Rattle.meaning.specs.Rows.{placed-size, chunk-size}
 use Rattle.meaning.specs.Alignment.{World}
 use Rattle.ast.specs.RowLaws.{Sized, length-puts, puts-all}
 use Rattle.alignment.specs.ByteAligner.{Field, Chunk, bitpack, bytes, dyn-bytes, ByteAligner}
-use Rattle.alignment.specs.AlignerRows.{words, chunk-rows, chunk-rows-length, placed-fields, told}
+use Rattle.alignment.specs.AlignerRows.{words, chunk-rows, chunk-rows-length, placed-fields, image}
 use Rattle.alignment.specs.SameAligner.{Same}
 
 field-sizes : (fs : List Field) → Sized placed-size (map words fs)
@@ -32,7 +32,7 @@ whole size n rows t z e h = rw (← e) (puts-all size rows t z (rw (length-puts 
 pub same-words : (ps cs : List ℕ) (w : World) (b : ByteAligner) → Same ps cs w b
     → (w .ps ≡ flat (map words (placed-fields b)) ++ drop (length (placed-fields b) * placed-size) ps)
     × (w .cs ≡ flat (chunk-rows 0 (b .chunks)) ++ drop (length (b .chunks) * chunk-size) cs)
-unfolding told
+unfolding image
 same-words ps cs w b s =
     let g = rw (s .is) at (s .good) in
     rw (s .is) (

@@ -69,12 +69,12 @@ settles : (n : ℕ) (x y : World) → (n ≡ 0 → Sound x) → Sound y → Soun
 settles zero x y f s = f refl
 settles (suc n) x y f s = rw (ne-eqb (suc n) 0 (λ e. omega arith)) s
 
-pub sound-kept : (k : Call) (w : World) → Sound w → Sound (call k w .left)
+pub sound-step : (k : Call) (w : World) → Sound w → Sound (call k w .left)
 unfolding call
-sound-kept (add-bitfield s v) w h = settles _ _ w (λ e. bits-sound s v w (bits-fit v w e)) h
-sound-kept (add-bytes s v) w h = settles _ _ w (λ e. chunk-sound 2 s v w (bytes-fit v w e)) h
-sound-kept (add-dyn-bytes s) w h = settles _ _ w (λ e. chunk-sound 3 s 0 w (dyn-fit w e)) h
-sound-kept align w h = settles (end-number w) w w (λ e. h) h
+sound-step (add-bitfield s v) w h = settles _ _ w (λ e. bits-sound s v w (bits-fit v w e)) h
+sound-step (add-bytes s v) w h = settles _ _ w (λ e. chunk-sound 2 s v w (bytes-fit v w e)) h
+sound-step (add-dyn-bytes s) w h = settles _ _ w (λ e. chunk-sound 3 s 0 w (dyn-fit w e)) h
+sound-step align w h = settles (end-number w) w w (λ e. h) h
 
 pub sound-fresh : (ps cs : List ℕ) → Sound (world fresh ps cs)
 sound-fresh ps cs =

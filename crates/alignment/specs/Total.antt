@@ -32,8 +32,8 @@ unfoldable pub chunk-bits : ℕ → List ℕ → ℕ
 chunk-bits zero cs = 0
 chunk-bits (suc n) cs = chunk-bits n cs + pick (eqb (getD cs (n * chunk-size + chunk-kind) 0) 1) (getD cs (n * chunk-size + chunk-width) 0) 0
 
-abbrev pub held : World → ℕ
-held w = chunk-bits (w .st .chunks) (w .cs) + w .st .width
+abbrev pub all-bits : World → ℕ
+all-bits w = chunk-bits (w .st .chunks) (w .cs) + w .st .width
 
 -- one more row leaves those before it
 module _ (cs : List ℕ) (k : ℕ) (row : List ℕ) (e : length row ≡ chunk-size) where
@@ -57,17 +57,18 @@ module _ (cs : List ℕ) (k : ℕ) (row : List ℕ) (e : length row ≡ chunk-si
   ))
 
 -- a call that adds v where it is accepted
-settles : (n v : ℕ) (done same : World) → (n ≡ 0 → held done ≡ held same + v) → held (settled n done same .left) ≡ held same + pick (eqb n 0) v 0
+settles : (n v : ℕ) (done same : World) → (n ≡ 0 → all-bits done ≡ all-bits same + v)
+    → all-bits (settled n done same .left) ≡ all-bits same + pick (eqb n 0) v 0
 settles zero v done same h = h refl
 settles (suc n) v done same h = simp (ne-eqb (suc n) 0 (λ e. omega arith)) (omega arith)
 
-either : (d : Bool) (x y : World) (t : ℕ) → (d ≡ true → held x ≡ t) → held y ≡ t → held (pick d x y) ≡ t
+either : (d : Bool) (x y : World) (t : ℕ) → (d ≡ true → all-bits x ≡ t) → all-bits y ≡ t → all-bits (pick d x y) ≡ t
 either true x y t f g = f refl
 either false x y t f g = g
 
-bits-held : (s v : ℕ) (w : World) → bits-number v w ≡ 0 → held (bits-done s v w) ≡ held w + v
+bits-more : (s v : ℕ) (w : World) → bits-number v w ≡ 0 → all-bits (bits-done s v w) ≡ all-bits w + v
 unfolding bits-done
-bits-held s v w e =
+bits-more s v w e =
     let f = bits-fit v w e in
     either (due (w .st .width + v)) _ _ _
     (λ d. omega (
@@ -77,22 +78,22 @@ bits-held s v w e =
     ))
     (omega arith)
 
-chunk-held : (kind s v : ℕ) (w : World) → eqb kind 1 ≡ false → w .st .chunks < room chunk-size (w .cs) → held (chunk-done kind s v w) ≡ held w + 0
+chunk-none : (kind s v : ℕ) (w : World) → eqb kind 1 ≡ false → w .st .chunks < room chunk-size (w .cs) → all-bits (chunk-done kind s v w) ≡ all-bits w + 0
 unfolding chunk-done
-chunk-held kind s v w e h = omega (arith, rw e at (adds (w .cs) (w .st .chunks) (chunk-words kind 0 0 v s) refl (omega arith)))
+chunk-none kind s v w e h = omega (arith, rw e at (adds (w .cs) (w .st .chunks) (chunk-words kind 0 0 v s) refl (omega arith)))
 
-step : (k : Call) (w : World) → held (call k w .left) ≡ held w + pick (eqb (call k w .number) 0) (bits-of k) 0
+step : (k : Call) (w : World) → all-bits (call k w .left) ≡ all-bits w + pick (eqb (call k w .number) 0) (bits-of k) 0
 unfolding call
-step (add-bitfield s v) w = settles _ v _ w (bits-held s v w)
-step (add-bytes s v) w = settles _ 0 _ w (λ e. chunk-held 2 s v w refl (bytes-fit v w e .chunk))
-step (add-dyn-bytes s) w = settles _ 0 _ w (λ e. chunk-held 3 s 0 w refl (dyn-fit w e .chunk))
+step (add-bitfield s v) w = settles _ v _ w (bits-more s v w)
+step (add-bytes s v) w = settles _ 0 _ w (λ e. chunk-none 2 s v w refl (bytes-fit v w e .chunk))
+step (add-dyn-bytes s) w = settles _ 0 _ w (λ e. chunk-none 3 s 0 w refl (dyn-fit w e .chunk))
 step align w = settles (end-number w) 0 w w (λ e. omega arith)
 
-pub from-any : (ks : List Call) (w : World) → held (calls ks w) ≡ held w + taken ks w
+pub from-any : (ks : List Call) (w : World) → all-bits (calls ks w) ≡ all-bits w + taken ks w
 unfolding calls taken
 from-any [] w = omega arith
 from-any (k ∷ ks) w = omega (arith, from-any ks (call k w .left), step k w)
 
-pub from-fresh : (ks : List Call) (ps cs : List ℕ) → held (calls ks (world fresh ps cs)) ≡ taken ks (world fresh ps cs)
+pub from-fresh : (ks : List Call) (ps cs : List ℕ) → all-bits (calls ks (world fresh ps cs)) ≡ taken ks (world fresh ps cs)
 unfolding chunk-bits
 from-fresh ks ps cs = let e : chunk-bits 0 cs ≡ 0 = refl in omega (arith, from-any ks (world fresh ps cs), e)

@@ -19,7 +19,7 @@ use Rattle.alignment.specs.declared.Ended.{Ended}
 use Rattle.alignment.specs.Answers.{called, ended}
 use Rattle.byte_aligner.specs.declared.Chunk.{Chunk}
 use Rattle.byte_aligner.specs.declared.Plan.{Plan}
-use Rattle.byte_aligner.specs.Records.{row, flat, Held, held, words, bits-to, chunk-to, Recorded, recorded, call-to}
+use Rattle.byte_aligner.specs.Records.{row, flat, RecordWorld, recordWorld, words, bits-to, chunk-to, Recorded, recorded, call-to}
 use Rattle.byte_aligner.specs.Plans.{near, with-chunks, near-state, blank, plan, plan-of, put-if, given, Plans, Ends}
 use Rattle.byte_aligner.specs.Answers.{answered}
 use Rattle.byte_aligner.specs.SameRecords.{flat-rows, flattened, same-words}
@@ -114,8 +114,8 @@ module _ (a : Aligner) (ps : List ℕ) (rs : List Chunk) (n : ℕ) (e : length r
   abbrev k : ℕ
   k = a .chunks
 
-  abbrev h : Held
-  h = held a ps rs
+  abbrev h : RecordWorld
+  h = recordWorld a ps rs
 
   abbrev w : World
   w = world (near-state a n) ps blank
@@ -173,7 +173,7 @@ module _ (a : Aligner) (ps : List ℕ) (rs : List Chunk) (n : ℕ) (e : length r
               (put chunk-size (near k n) (chunk-words 1 (a .start) (a .placed + 1 - a .start) (a .width + v) 0) blank))
               (world (wider (near k n)) laid blank)) w;
         })
-        ≡ record { number = m; left = pick t (pick d (held (cleared (k + 1)) laid (set rs k packed)) (held (wider k) laid rs)) h }
+        ≡ record { number = m; left = pick t (pick d (recordWorld (cleared (k + 1)) laid (set rs k packed)) (recordWorld (wider k) laid rs)) h }
     bits-cases m true true f = took (f refl refl) m (cleared 0) laid packed
     bits-cases m true false f = kept m (wider 0) laid blank
     bits-cases m false d f = kept m a ps blank
@@ -199,7 +199,7 @@ module _ (a : Aligner) (ps : List ℕ) (rs : List Chunk) (n : ℕ) (e : length r
           ≡ record {
             number = m;
             left = pick t
-                (held (with-chunks a (k + 1)) ps (set rs k (record { kind = kind; first = 0; count = 0; width = v; symbol = s }))) h;
+                (recordWorld (with-chunks a (k + 1)) ps (set rs k (record { kind = kind; first = 0; count = 0; width = v; symbol = s }))) h;
           }
       cases true g = took (g refl) m a ps (record { kind = kind; first = 0; count = 0; width = v; symbol = s })
       cases false g = kept m a ps blank
@@ -228,7 +228,7 @@ due-room a n r row = cases (both (ltb (a .chunks) n) (ltb 0 (r .state .chunks)))
 
 -- the plan that the code makes of what the core answered
 module _ (c : Call) (a : Aligner) (ps : List ℕ) (n : ℕ) (hold : (rs : List Chunk) (e : length rs ≡ n)
-    → after a ps rs n e (call c (world (near-state a n) ps blank)) ≡ call-to c (held a ps rs)) where
+    → after a ps rs n e (call c (world (near-state a n) ps blank)) ≡ call-to c (recordWorld a ps rs)) where
   plans : (r : Called) (ps′ row : List ℕ) → called r ps′ row ≡ call c (world (near-state a n) ps blank) → (p : Plan) → p ≡ plan-of a n r row
       → Plans c a ps n p ps′
   plans r ps′ row q p e = record {
@@ -279,4 +279,4 @@ pub stored : (c : Call) (a : Aligner) (ps : List ℕ) (rs : List Chunk) (p : Pla
     → rs′ ≡ put-if (p .due) rs (p .at) (p .chunk)
     → answered (p .number) (p .state) ps′ (flat rs′) ≡ call c (world a ps (flat rs))
 stored c a ps rs p ps′ rs′ s e =
-    ap (λ (l : List Chunk). answered (p .number) (p .state) ps′ (flat l)) e ∙ ap flattened (s .is rs refl) ∙ same-words c (held a ps rs)
+    ap (λ (l : List Chunk). answered (p .number) (p .state) ps′ (flat l)) e ∙ ap flattened (s .is rs refl) ∙ same-words c (recordWorld a ps rs)

@@ -149,7 +149,7 @@ toClauses 𝓤 k rule κs x =
       requires = λ _. emp 𝓤;
       ensures = λ _ r e.
           fact 𝓤 (answered r (now (e .0)) (now (e .1 .0)) (flat (now (e .1 .1 .0)))
-          ≡ meant (rule (words.told 3 κs k (x .1 .1 .1))) (world (now (x .0)) (now (x .1 .0)) (flat (now (x .1 .1 .0)))));
+          ≡ meant (rule (words.wordsOf 3 κs k (x .1 .1 .1))) (world (now (x .0)) (now (x .1 .0)) (flat (now (x .1 .1 .0)))));
     }
 
 abbrev planClauses : {M : Type 1} (𝓤 : URA M) (k : ℕ) → words.Rule k → Clauses 𝓤 (plan k)
@@ -157,7 +157,7 @@ planClauses 𝓤 k rule κs x =
     record {
       ghost = Unit {0};
       requires = λ _. emp 𝓤;
-      ensures = λ _ r e. fact 𝓤 (Plans (rule (words.told 1 κs k (x .1 .1 .1))) (x .0) (now (x .1 .0)) (x .1 .1 .0) r (now (e .1 .0)));
+      ensures = λ _ r e. fact 𝓤 (Plans (rule (words.wordsOf 1 κs k (x .1 .1 .1))) (x .0) (now (x .1 .0)) (x .1 .1 .0) r (now (e .1 .0)));
     }
 
 abbrev pub Planned : (k : ℕ) → words.Rule k → {M : Type 1} (𝓤 : URA M) (H : Heap 𝓤) (A : Atoms 𝓤) → Contract 𝓤
@@ -176,7 +176,7 @@ module _ {M : Type 1} (𝓤 : URA M) (H : Heap 𝓤) (A : Atoms 𝓤) (W : Given
   κs₁ = (κ₁, tt)
 
   abbrev t : words.Words k
-  t = words.told 3 κs k x
+  t = words.wordsOf 3 κs k x
 
   abbrev a : Args (ended k .signature) κs
   a = (record { ptr = (b, o); name = γ; now = h }, (x₁, (x₂, x)))
@@ -225,7 +225,7 @@ module _ {M : Type 1} (𝓤 : URA M) (H : Heap 𝓤) (A : Atoms 𝓤) (W : Given
 
   -- the words, as the plan hears of them
   abbrev t₁ : words.Words k
-  t₁ = words.told 1 κs₁ k (words.passed 1 κs₁ k t)
+  t₁ = words.wordsOf 1 κs₁ k (words.passed 1 κs₁ k t)
 
   goes₁ : words.Fit 1 κs₁ k (words.passed 1 κs₁ k t) → Is T.the-row h (mach h ∷ []) → n₂ < 2 ^ 64
       → ent 𝓤 (sep 𝓤 (A .lft κ₁ q₁) (sem 𝓤 H A (MutSlice (named 1) κ₁ u64 .own x₁ (v₁ ∷ [])))) (Planned k rule 𝓤 H A .pre to-plan)
@@ -363,7 +363,7 @@ module _ {M : Type 1} (𝓤 : URA M) (H : Heap 𝓤) (A : Atoms 𝓤) (W : Given
         keep ! (0 ∷ 1 ∷ 2 ∷ 9 ∷ 4 ∷ 10 ∷ 5 ∷ []) $
         by ! (exits f (r .number) (r .state) (zs .1 .0) (ys .0) (LL.owed S.the-type S′.the-laws r _ is .0 .1)
         (stored (rule t) h (x₁ .now) (x₂ .now) r (zs .1 .0) (ys .0)
-        (subst (λ (ws : words.Words k). Plans (rule ws) h (x₁ .now) n₂ r (zs .1 .0)) (words.told-passed 1 κs₁ k t) e) e₂) k₁ k₂))))))))))))))))))))))))))))
+        (subst (λ (ws : words.Words k). Plans (rule ws) h (x₁ .now) n₂ r (zs .1 .0)) (words.words-passed 1 κs₁ k t) e) e₂) k₁ k₂))))))))))))))))))))))))))))
 
 module _ {M : Type 1} (𝓤 : URA M) (H : Heap 𝓤) (A : Atoms 𝓤) (W : Given 𝓤 H A) (k : ℕ) (key : Name) (rule : words.Rule k)
     (at-mem : Memory → SProp 𝓤) (run : Routine → Fun 𝓤) where

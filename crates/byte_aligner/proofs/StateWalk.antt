@@ -119,7 +119,7 @@ lentClauses 𝓤 k rule κs x =
       ghost = Unit {0};
       requires = λ _. emp 𝓤;
       ensures = λ _ r e.
-          fact 𝓤 (answered r (now (e .0)) (now (e .1 .0)) (now (e .1 .1 .0)) ≡ call (rule (words.told 3 κs k (x .1 .1 .1)))
+          fact 𝓤 (answered r (now (e .0)) (now (e .1 .0)) (now (e .1 .1 .0)) ≡ call (rule (words.wordsOf 3 κs k (x .1 .1 .1)))
           (world (now (x .0)) (now (x .1 .0)) (now (x .1 .1 .0))));
     }
 
@@ -129,7 +129,8 @@ coreClauses 𝓤 k rule κs x =
       ghost = Unit {0};
       requires = λ _. emp 𝓤;
       ensures = λ _ r e.
-          fact 𝓤 (called r (now (e .1 .0)) (now (e .1 .1 .0)) ≡ call (rule (words.told 2 κs k (x .1 .1 .1))) (world (x .0) (now (x .1 .0)) (now (x .1 .1 .0))));
+          fact 𝓤 (called r (now (e .1 .0)) (now (e .1 .1 .0)) ≡ call (rule (words.wordsOf 2 κs k (x .1 .1 .1)))
+          (world (x .0) (now (x .1 .0)) (now (x .1 .1 .0))));
     }
 
 abbrev pub Core : (k : ℕ) → words.Rule k → {M : Type 1} (𝓤 : URA M) (H : Heap 𝓤) (A : Atoms 𝓤) → Contract 𝓤
@@ -144,7 +145,7 @@ module _ {M : Type 1} (𝓤 : URA M) (H : Heap 𝓤) (A : Atoms 𝓤) (W : Given
   κs₂ = (κ₁, (κ₂, tt))
 
   abbrev t : words.Words k
-  t = words.told 3 κs k x
+  t = words.wordsOf 3 κs k x
 
   abbrev a : Args (ended k .signature) κs
   a = (record { ptr = (b, o); name = γ; now = h }, (x₁, (x₂, x)))
@@ -177,7 +178,7 @@ module _ {M : Type 1} (𝓤 : URA M) (H : Heap 𝓤) (A : Atoms 𝓤) (W : Given
 
   -- the words, as the core hears of them
   abbrev t₂ : words.Words k
-  t₂ = words.told 2 κs₂ k (words.passed 2 κs₂ k t)
+  t₂ = words.wordsOf 2 κs₂ k (words.passed 2 κs₂ k t)
 
   abbrev tokens : Item 𝓤
   tokens = ‵ (flft κ₁ q₁) ⊛ ‵ (flft κ₂ q₂) ⊛ ‵ ftrue
@@ -288,7 +289,7 @@ module _ {M : Type 1} (𝓤 : URA M) (H : Heap 𝓤) (A : Atoms 𝓤) (W : Given
         move ! (11 ∷ 12 ∷ []) $ free1 ! $ move ! (9 ∷ 10 ∷ []) $ free1 ! $ free0 ! $
         keep ! (0 ∷ 1 ∷ 2 ∷ 4 ∷ 7 ∷ 5 ∷ []) $
         by ! (exits f (r .number) (r .state) (zs .1 .0) (zs .1 .1 .0) (LL.owed S.the-type S′.the-laws r _ is .0 .1)
-        (subst (λ (ws : words.Words k). Says ws (r .number) (r .state) (zs .1 .0) (zs .1 .1 .0)) (words.told-passed 2 κs₂ k t) e) n₁ n₂)))))))))))))))))))))
+        (subst (λ (ws : words.Words k). Says ws (r .number) (r .state) (zs .1 .0) (zs .1 .1 .0)) (words.words-passed 2 κs₂ k t) e) n₁ n₂)))))))))))))))))))))
 
 module _ {M : Type 1} (𝓤 : URA M) (H : Heap 𝓤) (A : Atoms 𝓤) (W : Given 𝓤 H A) (k : ℕ) (key : Name) (rule : words.Rule k) where
   walks : (C : Calls 𝓤 H) (Λ : Loops 𝓤 H) → FmC 𝓤 H (W .laws) C → Triple 𝓤 (C key) (Core k rule 𝓤 H A)

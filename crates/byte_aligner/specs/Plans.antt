@@ -15,7 +15,7 @@ use Rattle.alignment.specs.declared.Ended.{Ended}
 use Rattle.alignment.specs.Answers.{ended}
 use Rattle.byte_aligner.specs.declared.Chunk.{Chunk}
 use Rattle.byte_aligner.specs.declared.Plan.{Plan}
-use Rattle.byte_aligner.specs.Records.{held, Recorded, recorded, call-to}
+use Rattle.byte_aligner.specs.Records.{recordWorld, Recorded, recorded, call-to}
 
 -- a count of chunks, as against one row: 0 below the rows, 1 at them, 2 above them
 abbrev pub near : ℕ → ℕ → ℕ
@@ -60,7 +60,7 @@ given p ps rs = recorded (p .number) (p .state) ps (put-if (p .due) rs (p .at) (
 
 -- a plan comes to the call, over any records of so many rows; where one is due, it has room
 pub record Plans (c : Call) (a : Aligner) (ps : List ℕ) (rows : ℕ) (p : Plan) (ps′ : List ℕ) : Type 0 where
-  pub is : (rs : List Chunk) → length rs ≡ rows → given p ps′ rs ≡ call-to c (held a ps rs)
+  pub is : (rs : List Chunk) → length rs ≡ rows → given p ps′ rs ≡ call-to c (recordWorld a ps rs)
   pub fits : p .due ≡ true → p .at < rows
 
 -- the end, over any words of so many rows

@@ -20,46 +20,46 @@ flat [] = []
 flat (c ∷ cs) = row c ++ flat cs
 
 -- the state with the placed words and the records
-pub record Held : Type 0 where
+pub record RecordWorld : Type 0 where
   pub st : Aligner
   pub ps : List ℕ
   pub rs : List Chunk
 
-abbrev pub held : Aligner → List ℕ → List Chunk → Held
-held a ps rs = record { st = a; ps = ps; rs = rs }
+abbrev pub recordWorld : Aligner → List ℕ → List Chunk → RecordWorld
+recordWorld a ps rs = record { st = a; ps = ps; rs = rs }
 
-abbrev pub words : Held → World
+abbrev pub words : RecordWorld → World
 words h = world (h .st) (h .ps) (flat (h .rs))
 
-unfoldable pub bits-to : ℕ → ℕ → Held → Held
+unfoldable pub bits-to : ℕ → ℕ → RecordWorld → RecordWorld
 bits-to symbol width h =
     let a = h .st in
     let total = a .width + width in
     let ps = put placed-size (a .placed) (placed-words symbol width (a .width)) (h .ps) in
     pick (due total)
-    (held (record { placed = a .placed + 1; chunks = a .chunks + 1; start = a .placed + 1; width = 0 }) ps
+    (recordWorld (record { placed = a .placed + 1; chunks = a .chunks + 1; start = a .placed + 1; width = 0 }) ps
     (set (h .rs) (a .chunks) (record { kind = 1; first = a .start; count = a .placed + 1 - a .start; width = total; symbol = 0 })))
-    (held (record { placed = a .placed + 1; chunks = a .chunks; start = a .start; width = total }) ps (h .rs))
+    (recordWorld (record { placed = a .placed + 1; chunks = a .chunks; start = a .start; width = total }) ps (h .rs))
 
-unfoldable pub chunk-to : ℕ → ℕ → ℕ → Held → Held
+unfoldable pub chunk-to : ℕ → ℕ → ℕ → RecordWorld → RecordWorld
 chunk-to kind symbol width h =
     let a = h .st in
-    held (record { placed = a .placed; chunks = a .chunks + 1; start = a .start; width = a .width }) (h .ps)
+    recordWorld (record { placed = a .placed; chunks = a .chunks + 1; start = a .start; width = a .width }) (h .ps)
     (set (h .rs) (a .chunks) (record { kind = kind; first = 0; count = 0; width = width; symbol = symbol }))
 
 -- ---- what a call does to the records: it judges as over their words, and stores one record for a chunk row
 -- what it answers and leaves; a refused one leaves all as it came
 pub record Recorded : Type 0 where
   pub number : ℕ
-  pub left : Held
+  pub left : RecordWorld
 
 abbrev pub recorded : ℕ → Aligner → List ℕ → List Chunk → Recorded
-recorded n a ps rs = record { number = n; left = held a ps rs }
+recorded n a ps rs = record { number = n; left = recordWorld a ps rs }
 
-abbrev pub settled-to : ℕ → Held → Held → Recorded
+abbrev pub settled-to : ℕ → RecordWorld → RecordWorld → Recorded
 settled-to n done same = record { number = n; left = pick (eqb n 0) done same }
 
-unfoldable pub call-to : Call → Held → Recorded
+unfoldable pub call-to : Call → RecordWorld → Recorded
 call-to (add-bitfield s n) h = settled-to (bits-number n (words h)) (bits-to s n h) h
 call-to (add-bytes s n) h = settled-to (bytes-number n (words h)) (chunk-to 2 s n h) h
 call-to (add-dyn-bytes s) h = settled-to (dyn-number (words h)) (chunk-to 3 s 0 h) h

@@ -14,7 +14,7 @@ use Rattle.meaning.specs.Rows.{chunk-size}
 use Rattle.meaning.specs.Alignment.{World, world, due, bits-number, bytes-number, dyn-number, end-number, bits-done, chunk-done, Called, settled, call, Call, add-bitfield, add-bytes, add-dyn-bytes, align}
 use Rattle.ast.specs.RowLaws.{put-fits, put-short}
 use Rattle.byte_aligner.specs.declared.Chunk.{Chunk}
-use Rattle.byte_aligner.specs.Records.{row, flat, Held, held, words, bits-to, chunk-to, Recorded, settled-to, call-to}
+use Rattle.byte_aligner.specs.Records.{row, flat, RecordWorld, recordWorld, words, bits-to, chunk-to, Recorded, settled-to, call-to}
 
 pub flat-length : (rs : List Chunk) → length (flat rs) ≡ length rs * chunk-size
 unfolding flat
@@ -57,29 +57,29 @@ flat-set (x ∷ xs) (suc k) c =
 abbrev pub flattened : Recorded → Called
 flattened r = record { number = r .number; left = words (r .left) }
 
-settles : (n : ℕ) (x y : Held) (z : World) → words x ≡ z → flattened (settled-to n x y) ≡ settled n z (words y)
+settles : (n : ℕ) (x y : RecordWorld) (z : World) → words x ≡ z → flattened (settled-to n x y) ≡ settled n z (words y)
 settles n x y z e = cases (eqb n 0)
   where
     cases : (t : Bool) → _≡_ {A = Called} (record { number = n; left = words (pick t x y) }) (record { number = n; left = pick t z (words y) })
     cases true = ap (λ (w : World). record { number = n; left = w }) e
     cases false = refl
 
-bits-same : (s v : ℕ) (h : Held) → words (bits-to s v h) ≡ bits-done s v (words h)
+bits-same : (s v : ℕ) (h : RecordWorld) → words (bits-to s v h) ≡ bits-done s v (words h)
 unfolding bits-to bits-done
 bits-same s v h = cases (due (h .st .width + v)) _ _ _ _
   where
     cases : (d : Bool) (a b : Aligner) (ps : List ℕ) (c : Chunk)
-        → words (pick d (held a ps (set (h .rs) (h .st .chunks) c)) (held b ps (h .rs)))
+        → words (pick d (recordWorld a ps (set (h .rs) (h .st .chunks) c)) (recordWorld b ps (h .rs)))
         ≡ pick d (world a ps (put chunk-size (h .st .chunks) (row c) (flat (h .rs)))) (world b ps (flat (h .rs)))
     cases true a b ps c = ap (λ (l : List ℕ). world a ps l) (flat-set (h .rs) (h .st .chunks) c)
     cases false a b ps c = refl
 
-chunk-same : (k s v : ℕ) (h : Held) → words (chunk-to k s v h) ≡ chunk-done k s v (words h)
+chunk-same : (k s v : ℕ) (h : RecordWorld) → words (chunk-to k s v h) ≡ chunk-done k s v (words h)
 unfolding chunk-to chunk-done
 chunk-same k s v h = ap (λ (l : List ℕ). world (chunk-to k s v h .st) (h .ps) l) (flat-set (h .rs) (h .st .chunks) _)
 
 -- the answer, the state, the placed words and the words of the records, for every call
-pub same-words : (c : Call) (h : Held) → flattened (call-to c h) ≡ call c (words h)
+pub same-words : (c : Call) (h : RecordWorld) → flattened (call-to c h) ≡ call c (words h)
 unfolding call-to call
 same-words (add-bitfield s v) h = settles (bits-number v (words h)) _ h _ (bits-same s v h)
 same-words (add-bytes s v) h = settles (bytes-number v (words h)) _ h _ (chunk-same 2 s v h)

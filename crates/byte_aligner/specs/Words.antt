@@ -61,13 +61,13 @@ module _ (n : ℕ) where
     passed zero x = tt
     passed (suc k) x = (x .0, passed k (x .1))
 
-    abbrev pub told : (k : ℕ) → Passed k → Words k
-    told zero x = tt
-    told (suc k) x = (x .0, told k (x .1))
+    abbrev pub wordsOf : (k : ℕ) → Passed k → Words k
+    wordsOf zero x = tt
+    wordsOf (suc k) x = (x .0, wordsOf k (x .1))
 
-    pub told-passed : (k : ℕ) (x : Words k) → told k (passed k x) ≡ x
-    told-passed zero x = refl
-    told-passed (suc k) x = rw (told-passed k (x .1))
+    pub words-passed : (k : ℕ) (x : Words k) → wordsOf k (passed k x) ≡ x
+    words-passed zero x = refl
+    words-passed (suc k) x = rw (words-passed k (x .1))
 
     abbrev pub spells : (k : ℕ) → Spells (typesAt (slots k) κs)
     spells zero = tt
@@ -109,7 +109,7 @@ module _ (n : ℕ) where
           owned ! u64 (Is u64) (uint-makes 𝓤 H A W w64) (x .0) _ (g .0) $ fjoin ! $ done !
 
 -- words that fit in one signature fit in another
-pub fit-passed : (n m : ℕ) (κs : Lfts n) (κs′ : Lfts m) (k : ℕ) (x : Passed n κs k) → Fit n κs k x → Fit m κs′ k (passed m κs′ k (told n κs k x))
+pub fit-passed : (n m : ℕ) (κs : Lfts n) (κs′ : Lfts m) (k : ℕ) (x : Passed n κs k) → Fit n κs k x → Fit m κs′ k (passed m κs′ k (wordsOf n κs k x))
 fit-passed n m κs κs′ zero x f = tt
 fit-passed n m κs κs′ (suc k) x f = (f .0, fit-passed n m κs κs′ k (x .1) (f .1))
 
@@ -188,7 +188,7 @@ module _ {M : Type 1} {𝓤 : URA M} {H : Heap 𝓤} {A : Atoms 𝓤} {K : Type 
   allocs-words t (suc k) h = alloc1 t (λ b. allocs-words t k (λ bs. move t (1 ∷ 2 ∷ 0 ∷ []) $ join t $ join t $ h (b, bs)))
 
   pub pass-words : {Γ : List (Item 𝓤)} → K → (n : ℕ) (κs : Lfts n) (k : ℕ) (bs : Blocks k) (x : Passed n κs k) → Fit n κs k x
-      → (E : Env 𝓤 H) {g : Goal 𝓤 H} → Step K W (cells 𝓤 k bs (told n κs k x) ∷ Γ) g (rooms 𝓤 k bs ∷ Γ) (passes (env k bs E) (machine n κs k x) g)
+      → (E : Env 𝓤 H) {g : Goal 𝓤 H} → Step K W (cells 𝓤 k bs (wordsOf n κs k x) ∷ Γ) g (rooms 𝓤 k bs ∷ Γ) (passes (env k bs E) (machine n κs k x) g)
   pass-words t n κs zero bs x f E = pass0 t
   pass-words t n κs (suc k) bs x f E =
       step (λ s. split t $ split t $ pass1 t (init t 0 refl (tt, record { fits = f .0 .1 })) $ move t (2 ∷ 0 ∷ 1 ∷ []) $
@@ -255,23 +255,23 @@ module _ {M : Type 1} {𝓤 : URA M} {H : Heap 𝓤} {A : Atoms 𝓤} {K : Type 
       }
 
   loads : K → (n : ℕ) (κs : Lfts n) (k i : ℕ) (bs : Blocks k) (x : Passed n κs k) {E : Env 𝓤 H} → Stand E i k bs
-      → Holds 𝓤 H A Γ (mean 𝓤 H A (cells 𝓤 k bs (told n κs k x))) → Opds K W Γ E (copies i k) (machine n κs k x)
+      → Holds 𝓤 H A Γ (mean 𝓤 H A (cells 𝓤 k bs (wordsOf n κs k x))) → Opds K W Γ E (copies i k) (machine n κs k x)
   loads t n κs zero i bs x s h = no-more t
   loads t n κs (suc k) i bs x s h =
       let c : SProp 𝓤 = H .at fullShare word (bs .0) zero (vint w64 (x .0)) in
       let d : SProp 𝓤 = H .dies word (bs .0) in
-      let l : SProp 𝓤 = mean 𝓤 H A (cells 𝓤 k (bs .1) (told n κs k (x .1))) in
+      let l : SProp 𝓤 = mean 𝓤 H A (cells 𝓤 k (bs .1) (wordsOf n κs k (x .1))) in
       and-then t (load t (from-word t (s .0) (stop t)) (reads t fullShare word (bs .0) zero (vint w64 (x .0))
       (holds-first 𝓤 H A Γ c d (holds-first 𝓤 H A Γ (sep 𝓤 c d) l h))))
       (loads t n κs k (suc i) (bs .1) (x .1) (s .1) (holds-second 𝓤 H A Γ (sep 𝓤 c d) l h))
 
   -- the words as the last operands of a call in a frame, where entry p of the context holds them: as they were passed, and to another signature
   pub load-passed : K → (n : ℕ) (κs : Lfts n) (k p : ℕ) (bs : Blocks k) (E : Env 𝓤 H) (x : Passed n κs k) {e₀ e₁ e₂ e₃ : Ty × ℕ}
-      → nth 𝓤 H A p Γ ≡ cells 𝓤 k bs (told n κs k x) → Opds K W Γ (frame e₀ e₁ e₂ e₃ k bs E) (copies 4 k) (machine n κs k x)
+      → nth 𝓤 H A p Γ ≡ cells 𝓤 k bs (wordsOf n κs k x) → Opds K W Γ (frame e₀ e₁ e₂ e₃ k bs E) (copies 4 k) (machine n κs k x)
   load-passed t n κs k p bs E x {e₀} {e₁} {e₂} {e₃} e =
-      loads t n κs k 4 bs x (stand-framed e₀ e₁ e₂ e₃ k bs E) (holds 𝓤 H A Γ p (cells 𝓤 k bs (told n κs k x)) e)
+      loads t n κs k 4 bs x (stand-framed e₀ e₁ e₂ e₃ k bs E) (holds 𝓤 H A Γ p (cells 𝓤 k bs (wordsOf n κs k x)) e)
 
   pub load-words : K → (n : ℕ) (κs : Lfts n) (k p : ℕ) (bs : Blocks k) (E : Env 𝓤 H) (x : Words k) {e₀ e₁ e₂ e₃ : Ty × ℕ}
       → nth 𝓤 H A p Γ ≡ cells 𝓤 k bs x → Opds K W Γ (frame e₀ e₁ e₂ e₃ k bs E) (copies 4 k) (machine n κs k (passed n κs k x))
   load-words t n κs k p bs E x e =
-      load-passed t n κs k p bs E (passed n κs k x) (e ∙ ap (λ (ws : Words k). cells 𝓤 k bs ws) (sym (told-passed n κs k x)))
+      load-passed t n κs k p bs E (passed n κs k x) (e ∙ ap (λ (ws : Words k). cells 𝓤 k bs ws) (sym (words-passed n κs k x)))

@@ -11,7 +11,7 @@ use Rattle.spans.specs.declared.Span.{Span}
 use Rattle.spans.specs.declared.Part.{Part}
 use Rattle.spans.specs.declared.Part.the-variants.{Absent, Here}
 use Rattle.spans.specs.Answers.{Constrained, Matched, MatchedPart}
-use Rattle.grammar.specs.Bounds.{held, took-inside}
+use Rattle.grammar.specs.Limits.{draws-limits, took-inside}
 use Rattle.meaning.specs.Tables.{Table, size, row, Lent}
 use Rattle.spans.specs.declared.Constraint.{Constraint}
 use Rattle.spans.specs.declared.ConstraintMatch.{ConstraintMatch}
@@ -19,8 +19,8 @@ use Rattle.walk.specs.declared.Number.{Number}
 use Rattle.walk.specs.declared.Name.{Name}
 use Rattle.walk.specs.declared.Walk.{Walk}
 use Rattle.walk.specs.declared.Door.the-variants.{Write}
-use Rattle.walk.specs.State.{slot, counted, lend, noted, At, Goes, same, Came, Knows, Put}
-use Rattle.walk.specs.Steps.{Sound, tally, tally-is, wrote-none, wrote-then, wrote-in, wrote-as, same-counts, at-on, noted-goes}
+use Rattle.walk.specs.State.{slot, counted, lend, afterInteger, At, Goes, same, Came, Knows, Put}
+use Rattle.walk.specs.Steps.{Sound, tally, tally-is, wrote-none, wrote-then, wrote-in, wrote-as, same-counts, at-on, integer-goes}
 use Rattle.walk.specs.Doors.{put-asks, put-wrote, put-goes, stood}
 use Rattle.walk.specs.Lists.{GoesOne, GoesAll, found-drawn, found-some, found-in}
 use Rattle.walk.specs.PartLists.{list-in, list-first, list-ends}
@@ -28,7 +28,7 @@ use Rattle.walk.specs.Terms.{integerItems, operandNumber, spanName, operandName
 use Rattle.walk.specs.Insides.{InsideConstraint, constraint-inside}
 use Rattle.walk.specs.Sounds.{operand-sound, constraint-sized}
 use Rattle.constraint_rows.specs.Constraints.{constraint-form, rowWords, rowEnd, none-item, own-items, Placed, GoesRow, Ready}
-use Rattle.constraint_rows.specs.Listed.{constraint-rule, part-list, Begun, GoesPart}
+use Rattle.constraint_rows.specs.OptionalLists.{constraint-rule, part-list, Begun, GoesPart}
 
 -- ---- one row: the walk comes to its start as a, and to its end as b
 module _ {src : List ℕ} {at : ℕ} {c : Constraint} {v : Number} {n : Walk} (w : Placed src at c v n) where
@@ -76,17 +76,17 @@ module _ {src : List ℕ} {at : ℕ} {m : ConstraintMatch} {n : Walk} (w : Ready
   within = took-inside src at (w .found .within) (found-drawn (w .found) .reads)
 
   inside : InsideConstraint (length src - at) c
-  inside = constraint-inside at (taken (m .at)) (length src - at) c within (held (found-drawn (w .found)) (w .found .hits) at)
+  inside = constraint-inside at (taken (m .at)) (length src - at) c within (draws-limits (found-drawn (w .found)) (w .found .hits) at)
 
   ends : rowEnd at c ≤ at + taken (m .at)
-  ends = held (found-drawn (w .found)) (w .found .hits) at .1 .0
+  ends = draws-limits (found-drawn (w .found)) (w .found .hits) at .1 .0
 
   pub number-ready : (at ≤ length src) × InsideOperand (length src - at) (c .value)
   number-ready = (w .found .within, inside .value)
 
-  module _ {v : Number} {k : Walk} (ev : v ≡ operandNumber src at (c .value)) (ek : k ≡ noted (v .place) (v .reason) n) where
+  module _ {v : Number} {k : Walk} (ev : v ≡ operandNumber src at (c .value)) (ek : k ≡ afterInteger (v .place) (v .reason) n) where
     noting : (a : Lent → Lent) → Goes (integerItems v) src at n k a a
-    noting a = noted-goes (subst Sound (sym ev) (operand-sound src at (c .value))) a ek (w .came)
+    noting a = integer-goes (subst Sound (sym ev) (operand-sound src at (c .value))) a ek (w .came)
 
     pub row-ready : Placed src at c v k
     row-ready =

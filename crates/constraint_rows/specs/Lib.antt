@@ -1,3 +1,3 @@
 pub mod Constraints
-pub mod Listed
+pub mod OptionalLists
 pub mod Settled

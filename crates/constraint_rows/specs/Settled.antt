@@ -9,7 +9,7 @@ use Rattle.spans.specs.declared.Constraint.{Constraint}
 use Rattle.walk.specs.declared.Walk.{Walk}
 use Rattle.walk.specs.Settled.{Alike, wrote-settled}
 use Rattle.constraint_rows.specs.Constraints.{GoesRow}
-use Rattle.constraint_rows.specs.Listed.{GoesPart}
+use Rattle.constraint_rows.specs.OptionalLists.{GoesPart}
 
 module _ {src : List ℕ} {at : ℕ} {n r s : Walk} {a b c : Lent → Lent} (e : length (n .counts) ≡ 5) where
   pub row-settled : {x : Constraint} → GoesRow src at x n r a b → GoesRow src at x n s a c → Alike r s b c

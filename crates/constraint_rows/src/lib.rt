@@ -3,7 +3,7 @@ ghost use Rattle.meaning.specs.Tables.{Table};
 ghost use Rattle.walk.specs.State.{lend};
 ghost use Rattle.walk.specs.Lists.{GoesOne, GoesAll};
 ghost use Rattle.constraint_rows.specs.Constraints.{constraint-form, Placed, GoesRow, Ready};
-ghost use Rattle.constraint_rows.specs.Listed.{Begun, GoesPart};
+ghost use Rattle.constraint_rows.specs.OptionalLists.{Begun, GoesPart};
 use meaning::Match;
 use spans::Constraint;
 use spans::ConstraintMatch;

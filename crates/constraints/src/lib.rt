@@ -7,7 +7,7 @@ ghost use Rattle.grammar.specs.Matching.{Within, Reads, Steps};
 ghost use Rattle.spans.specs.declared.Operand.the-variants.{Identifier};
 ghost use Rattle.spans.specs.Drawn.{drawOperand, drawConstraint};
 ghost use Rattle.spans.specs.Answers.{Continues, Free, Constrained, nowhere, noConstraint};
-use grammar::settle;
+use grammar::optional;
 use lexis::blanks::next_literal;
 use lexis::blanks::then_blanks;
 use lexis::texts::then_literal;
@@ -34,7 +34,7 @@ fn then_operand(s: &[u8], m: Match) -> OperandMatch
             operand: Operand::Identifier(between(m, x)),
         };
     }
-    let b = settle(s, m, x);
+    let b = optional(s, m, x);
     let y = then_integer(s, b);
     OperandMatch {
         at: y,
@@ -105,7 +105,7 @@ fn then_commas(s: &[u8], m: Match) -> Match
     loop {
         let next = then_comma(s, then_blanks(s, at));
         match next {
-            Match::Missed(_) => return settle(s, at, next),
+            Match::Missed(_) => return optional(s, at, next),
             Match::Took(_, _) => at = next,
         }
     }
@@ -119,7 +119,7 @@ pub fn then_constraint_list(s: &[u8], m: Match) -> Match
     let c = then_constraint(s, m);
     let first = c.at;
     let b = then_blanks(s, first);
-    settle(s, b, then_commas(s, then_comma(s, b)))
+    optional(s, b, then_commas(s, then_comma(s, b)))
 }
 
 // A list of constraints at the front.

@@ -9,18 +9,18 @@ use Rattle.meaning.specs.Peg.{hit, taken}
 use Rattle.meaning.specs.Forest.{Forest, _⊕_}
 use Rattle.meaning.specs.Pdl.{constraint-list}
 use Rattle.meaning.specs.Tables.{Table, Lent}
-use Rattle.grammar.specs.Bounds.{Held, held, held-left, held-right}
+use Rattle.grammar.specs.Limits.{Limits, draws-limits, limits-left, limits-right}
 use Rattle.spans.specs.declared.Header.{Header}
 use Rattle.spans.specs.Drawn.{drawPart, listAt}
 use Rattle.walk.specs.declared.Number.{Number}
 use Rattle.walk.specs.declared.Walk.{Walk}
-use Rattle.walk.specs.State.{lend, same, noted, Goes, Came}
-use Rattle.walk.specs.Steps.{Sound, wrote-then, wrote-in, wrote-as, goes-then, goes-in, noted-goes}
+use Rattle.walk.specs.State.{lend, same, afterInteger, Goes, Came}
+use Rattle.walk.specs.Steps.{Sound, wrote-then, wrote-in, wrote-as, goes-then, goes-in, integer-goes}
 use Rattle.walk.specs.Doors.{stood}
 use Rattle.walk.specs.Sounds.{part-sound}
 use Rattle.walk.specs.Terms.{partNumber, integerItems, spanName, otherName}
 use Rattle.walk.specs.Insides.{part-inside, wider-part}
-use Rattle.constraint_rows.specs.Listed.{partItems, Begun, GoesPart}
+use Rattle.constraint_rows.specs.OptionalLists.{partItems, Begun, GoesPart}
 use Rattle.declaration_rows.specs.declared.heads.Headed.{Headed}
 use Rattle.declaration_rows.specs.Kinds.{Kind, HeadOf}
 use Rattle.declaration_rows.specs.Heads.{InsideHeader, HeadAt, GoesHead}
@@ -33,36 +33,38 @@ module _ (t : List ℕ) (z : Kind) (h : Header) (d : HeadOf z t h) (e : hit (h .
   abbrev hi : ℕ
   hi = o + taken (h .at)
 
-  held-parts : Held o hi (drawPart Rule.identifier o (h .parent) ⊕ drawPart Rule.integer o (h .width) ⊕ drawPart Rule.string o (h .function) ⊕ list)
-  held-parts = held (d .drawn) e o .1 .1 .1 .1 .1 .1
+  limits-parts : Limits o hi (drawPart Rule.identifier o (h .parent) ⊕ drawPart Rule.integer o (h .width) ⊕ drawPart Rule.string o (h .function) ⊕ list)
+  limits-parts = draws-limits (d .drawn) e o .1 .1 .1 .1 .1 .1
 
-  held-width : Held o hi (drawPart Rule.integer o (h .width) ⊕ drawPart Rule.string o (h .function) ⊕ list)
-  held-width = held-right o hi (drawPart Rule.identifier o (h .parent)) _ held-parts
+  limits-width : Limits o hi (drawPart Rule.integer o (h .width) ⊕ drawPart Rule.string o (h .function) ⊕ list)
+  limits-width = limits-right o hi (drawPart Rule.identifier o (h .parent)) _ limits-parts
 
-  held-function : Held o hi (drawPart Rule.string o (h .function) ⊕ list)
-  held-function = held-right o hi (drawPart Rule.integer o (h .width)) _ held-width
+  limits-function : Limits o hi (drawPart Rule.string o (h .function) ⊕ list)
+  limits-function = limits-right o hi (drawPart Rule.integer o (h .width)) _ limits-width
 
-  pub held-list : Held o hi list
-  held-list = held-right o hi (drawPart Rule.string o (h .function)) _ held-function
+  pub limits-list : Limits o hi list
+  limits-list = limits-right o hi (drawPart Rule.string o (h .function)) _ limits-function
 
   pub head-inside : (n : ℕ) → taken (h .at) ≤ n → InsideHeader n h
   head-inside n k =
-      let i : o + (h .id) .start + (h .id) .len ≤ hi = held (d .drawn) e o .1 .1 .1 .1 .0 in
+      let i : o + (h .id) .start + (h .id) .len ≤ hi = draws-limits (d .drawn) e o .1 .1 .1 .1 .0 in
       record {
         id = omega (arith, i, k);
         parent =
-            wider-part _ n (h .parent) k (part-inside Rule.identifier o _ (h .parent) (held-left o hi (drawPart Rule.identifier o (h .parent)) _ held-parts));
-        width = wider-part _ n (h .width) k (part-inside Rule.integer o _ (h .width) (held-left o hi (drawPart Rule.integer o (h .width)) _ held-width));
+            wider-part _ n (h .parent) k
+            (part-inside Rule.identifier o _ (h .parent) (limits-left o hi (drawPart Rule.identifier o (h .parent)) _ limits-parts));
+        width = wider-part _ n (h .width) k (part-inside Rule.integer o _ (h .width) (limits-left o hi (drawPart Rule.integer o (h .width)) _ limits-width));
         function =
             wider-part _ n (h .function) k (part-inside Rule.string o _ (h .function)
-            (held-left o hi (drawPart Rule.string o (h .function)) _ held-function));
+            (limits-left o hi (drawPart Rule.string o (h .function)) _ limits-function));
       }
 
 -- ---- the walk comes to the head as a, and notes its width v as m
 module _ {src : List ℕ} {at : ℕ} {h : Header} {n : Walk} (w : HeadAt src at h n) where
-  module _ {a : Walk} (ca : Came src at n a) {v : Number} {m : Walk} (ev : v ≡ partNumber src at (h .width)) (em : m ≡ noted (v .place) (v .reason) a) where
+  module _ {a : Walk} (ca : Came src at n a) {v : Number} {m : Walk} (ev : v ≡ partNumber src at (h .width))
+      (em : m ≡ afterInteger (v .place) (v .reason) a) where
     noting : (f : Lent → Lent) → Goes (integerItems v) src at n m f f
-    noting f = goes-then (goes-in f (ca .goes)) (noted-goes (subst Sound (sym ev) (part-sound src at (h .width))) f em (ca .goes .at))
+    noting f = goes-then (goes-in f (ca .goes)) (integer-goes (subst Sound (sym ev) (part-sound src at (h .width))) f em (ca .goes .at))
 
     pub list-ready : Begun src at (h .constraints) m
     list-ready = record { came = noting same .at; list = w .stands }

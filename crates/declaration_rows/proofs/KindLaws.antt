@@ -13,7 +13,7 @@ use Rattle.meaning.specs.Places.{placeAt}
 use Rattle.meaning.specs.Tables.{Table, Item, row, count, firstOf, Lent}
 use Rattle.meaning.specs.Walk.{node, parse-kind, parse-declaration, parse-toplevel, parse-enum-tag}
 use Rattle.grammar.specs.Steps.{rest-is}
-use Rattle.grammar.specs.Bounds.{took-inside}
+use Rattle.grammar.specs.Limits.{took-inside}
 use Rattle.spans.specs.declared.Header.{Header}
 use Rattle.spans.specs.Drawn.{drawHeader}
 use Rattle.walk.specs.declared.Door.the-variants.{Write}
@@ -23,7 +23,7 @@ use Rattle.walk.specs.State.{counted, lend, Wrote, Tallied}
 use Rattle.walk.specs.Steps.{count-append, no-rows, wrote-then, wrote-in, wrote-as, tally, tally-is}
 use Rattle.walk.specs.Terms.{partNumber, integerItems, spanName, otherName, declarationWords}
 use Rattle.walk.specs.Lists.{listNodes}
-use Rattle.constraint_rows.specs.Listed.{partNodes}
+use Rattle.constraint_rows.specs.OptionalLists.{partNodes}
 use Rattle.declaration_rows.specs.declared.heads.Headed.{Headed}
 use Rattle.declaration_rows.specs.declared.Parts.{Parts}
 use Rattle.tag_rows.specs.Tags.{tag-form}
@@ -38,7 +38,7 @@ use Rattle.declaration_rows.specs.Sorts.{Sorted, none, an-int, parts, so
 use Rattle.declaration_rows.specs.Heads.{headConstraints, headItems, HeadAt, GoesHead}
 use Rattle.declaration_rows.specs.Declarations.{takes-byte, ReadyKind, Opened, oneItems, oneEnd, GoesOne, GoesParts, declarationRow, Rowed, GoesRow}
 use Rattle.declaration_rows.specs.Views.{View, view, one-at}
-use Rattle.declaration_rows.proofs.HeadLaws.{held-list, head-inside, head-in}
+use Rattle.declaration_rows.proofs.HeadLaws.{limits-list, head-inside, head-in}
 
 -- ---- a declaration's node, and no other
 one-node : {k : ℕ} → Numbered k → (src : List ℕ) (xs : List Item) (s l : ℕ) (kids : Forest) → parse-toplevel src xs (tree (kindOf k .root) s l kids nil)
@@ -94,7 +94,7 @@ module _ {src : List ℕ} {at kind : ℕ} {h : Header} {n : Walk} (w : Opened sr
         came = w .ready .ready .came;
         ends = head-ends;
         inside = head-inside (drop at src) z h (w .head) (whole-is .headed) at (length src - at) (omega (arith, head-ends, within));
-        list = held-list (drop at src) z h (w .head) (whole-is .headed) at;
+        list = limits-list (drop at src) z h (w .head) (whole-is .headed) at;
         stands = w .head .sound (whole-is .headed);
       }
 

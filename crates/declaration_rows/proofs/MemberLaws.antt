@@ -13,7 +13,7 @@ use Rattle.meaning.specs.Peg.{seq, run, bytewise, hit, taken}
 use Rattle.meaning.specs.Pdl.{text, skip, enum-tag, enum-tag-list, field, field-list}
 use Rattle.meaning.specs.Tables.{Table, Lent}
 use Rattle.grammar.specs.Steps.{reads, at, rest-is}
-use Rattle.grammar.specs.Bounds.{run-inside}
+use Rattle.grammar.specs.Limits.{run-inside}
 use Rattle.lexis.specs.Skips.{Skips}
 use Rattle.spans.specs.declared.TagMatch.{TagMatch}
 use Rattle.spans.specs.declared.FieldMatch.{FieldMatch}

@@ -15,7 +15,7 @@ use Rattle.meaning.specs.Walk.{parse-toplevel}
 use Rattle.grammar.specs.Matching.{Reads}
 use Rattle.grammar.specs.Steps.{rest-is, at as at-part}
 use Rattle.grammar.specs.Nodes.{nodes-rule}
-use Rattle.grammar.specs.Bounds.{took-inside}
+use Rattle.grammar.specs.Limits.{took-inside}
 use Rattle.walk.specs.declared.Walk.{Walk}
 use Rattle.walk.specs.Steps.{wrote-none, wrote-as, at-on}
 use Rattle.declaration_rows.specs.Kinds.{declared}

@@ -15,7 +15,7 @@ use Rattle.grammar.specs.Matching.{Steps}
 use Rattle.grammar.specs.Hits.{hit-before, hit-behind, taken-after}
 use Rattle.grammar.specs.Steps.{steps}
 use Rattle.grammar.specs.Nodes.{nil-right}
-use Rattle.grammar.specs.Drawing.{Draws, whole, opened, drawn, then, noted}
+use Rattle.grammar.specs.Drawing.{Draws, whole, opened, drawn, then, draws-rule}
 use Rattle.lexis.specs.Skips.{skips}
 use Rattle.spans.specs.Parts.{gap, mark}
 
@@ -52,7 +52,7 @@ module _ (r : Rule) (c : is Rule.COMMENT r ≡ false) (h l : Peg) (src : List �
   s3 = steps b2 (seq skip (text "}")) t b3 (s2 .fits) refl
 
   all : Draws braced t b3 (λ o. tree r o (taken b3) ((w o ⊕ nil ⊕ nodes (bytewise l) (o + taken b1) (drop (taken b1) t)) ⊕ nil) nil)
-  all = noted r c (whole (then (then (opened d) (then (gap s1) (drawn s2))) (mark s3)))
+  all = draws-rule r c (whole (then (then (opened d) (then (gap s1) (drawn s2))) (mark s3)))
 
   module _ (hits : hit (run (bytewise (rule r (seq (seq h (seq skip l)) (seq skip (text "}"))))) (drop at src)) ≡ true) where
     h3 : hit b3 ≡ true

@@ -7,7 +7,7 @@ use Rattle.meaning.specs.Peg.{taken}
 use Rattle.meaning.specs.Pdl.{constraint-list}
 use Rattle.meaning.specs.Places.{placeAt}
 use Rattle.meaning.specs.Tables.{Item, Lent}
-use Rattle.grammar.specs.Bounds.{Held}
+use Rattle.grammar.specs.Limits.{Limits}
 use Rattle.spans.specs.declared.Header.{Header}
 use Rattle.spans.specs.Drawn.{listAt}
 use Rattle.spans.specs.Answers.{MatchedPart}
@@ -15,7 +15,7 @@ use Rattle.walk.specs.declared.Door.the-variants.{Write}
 use Rattle.walk.specs.declared.Walk.{Walk}
 use Rattle.walk.specs.State.{Wrote, At}
 use Rattle.walk.specs.Terms.{partNumber, integerItems, spanName, otherName, Inside, InsidePart}
-use Rattle.constraint_rows.specs.Listed.{partItems}
+use Rattle.constraint_rows.specs.OptionalLists.{partItems}
 use Rattle.declaration_rows.specs.declared.heads.Headed.{Headed}
 
 -- the spans of a head lie in a text of n bytes
@@ -30,7 +30,7 @@ pub record HeadAt (src : List ℕ) (at : ℕ) (h : Header) (n : Walk) : Type 0 w
   pub came : At src at n
   pub ends : at + taken (h .at) ≤ length src
   pub inside : InsideHeader (length src - at) h
-  pub list : Held at (at + taken (h .at)) (listAt constraint-list at (drop at src) (h .constraints))
+  pub list : Limits at (at + taken (h .at)) (listAt constraint-list at (drop at src) (h .constraints))
   pub stands : MatchedPart constraint-list (drop at src) (h .constraints)
 
 -- what the walk meets in a head: its width, and its constraints

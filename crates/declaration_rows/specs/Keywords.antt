@@ -88,5 +88,5 @@ kind-test {t} h1 h2 h3 h4 h5 h6 =
         (λ e. next 3 l _ h3 (λ e. next 4 l _ h4 (λ e. next 5 l _ h5 (λ e. ap (λ (m : List ℕ). prefixb m t) (sym (alike-same (word 6) l e)) ∙ h6) e) e) e) e) e
 
 -- ---- what `kind_at` finds of a word
-pub word-told : {l t : List ℕ} {m : Match} {b c : Bool} → Reads (lit l) t m → b ≡ hit m → b ≡ c → prefixb l t ≡ c
-word-told {l} {t} r e h = sym (hit-lit l t) ∙ ap hit (sym (r .is)) ∙ sym e ∙ h
+pub word-prefix : {l t : List ℕ} {m : Match} {b c : Bool} → Reads (lit l) t m → b ≡ hit m → b ≡ c → prefixb l t ≡ c
+word-prefix {l} {t} r e h = sym (hit-lit l t) ∙ ap hit (sym (r .is)) ∙ sym e ∙ h

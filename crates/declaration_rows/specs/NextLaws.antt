@@ -15,7 +15,7 @@ use Rattle.grammar.specs.Steps.{reads}
 use Rattle.grammar.specs.Stars.{star-none}
 use Rattle.grammar.specs.Nodes.{nodes-seq}
 use Rattle.grammar.specs.Lists.{no-turn, next-turn, next-end}
-use Rattle.grammar.specs.Bounds.{took-inside}
+use Rattle.grammar.specs.Limits.{took-inside}
 use Rattle.lexis.specs.Skips.{Skips}
 use Rattle.lexis.specs.Leaves.{skip-none}
 use Rattle.declarations.specs.Files.{declaration-eats}

@@ -20,7 +20,7 @@ use Rattle.walk.specs.Listing.{listOf}
 use Rattle.walk.specs.Lists.{listNodes}
 use Rattle.walk.specs.PartLists.{list-node}
 use Rattle.constraint_rows.specs.Constraints.{constraint-form}
-use Rattle.constraint_rows.specs.Listed.{constraint-rule}
+use Rattle.constraint_rows.specs.OptionalLists.{constraint-rule}
 use Rattle.tag_rows.specs.Tags.{tag-form}
 use Rattle.field_rows.specs.Fields.{field-form}
 use Rattle.declaration_rows.specs.Members.{memberNodes, memberItems, own}

@@ -18,7 +18,7 @@ use Rattle.grammar.specs.Hits.{hit-lit}
 use Rattle.grammar.specs.Steps.{reads}
 use Rattle.grammar.specs.Openings.{longer, clash, clashes, opens, misses}
 use Rattle.grammar.specs.Choices.{left}
-use Rattle.grammar.specs.Telling.{told, marked, alone}
+use Rattle.grammar.specs.Marks.{marks-misses, marks-matches, alone}
 
 -- ---- the byte in front
 pub front-none : (t : List ℕ) → length t ≡ 0 → 0 ≡ getD t 0 0
@@ -84,15 +84,15 @@ one-left checksums = refl
 one-left tests = refl
 
 -- each has a name, behind whose last byte a further one was tried
-tells : {q : List ℕ → Bool} {g : Peg} → Only q g → both (told (bytewise g)) (marked (bytewise g)) ≡ true
+marks : {q : List ℕ → Bool} {g : Peg} → Only q g → both (marks-misses (bytewise g)) (marks-matches (bytewise g)) ≡ true
 unfolding rules
-tells enums = refl
-tells packets = refl
-tells structs = refl
-tells groups = refl
-tells customs = refl
-tells checksums = refl
-tells tests = refl
+marks enums = refl
+marks packets = refl
+marks structs = refl
+marks groups = refl
+marks customs = refl
+marks checksums = refl
+marks tests = refl
 
 pub kind-is : {q : List ℕ → Bool} {g : Peg} {t : List ℕ} {r : Match} → Only q g → Gone q t → Reads g t r → Reads declaration t r
 kind-is {q} {g} {t} {r} k h d =
@@ -100,7 +100,8 @@ kind-is {q} {g} {t} {r} k h d =
     let m : Peg = bytewise g in
     reads declaration t r
     (d .is ∙ ap (λ (p : Peg). run p t) (sym e)
-    ∙ sym (alone q t (h .gone) (bytewise declaration) (ap told e ∙ both-1 (told m) (marked m) (tells k)) (ap marked e ∙ both-2 (told m) (marked m) (tells k))))
+    ∙ sym (alone q t (h .gone) (bytewise declaration) (ap marks-misses e ∙ both-1 (marks-misses m) (marks-matches m) (marks k))
+    (ap marks-matches e ∙ both-2 (marks-misses m) (marks-matches m) (marks k))))
 
 -- ---- where none of the six bytes stands, no kind is left
 nothing : {t : List ℕ} → Gone (λ l. false) t

@@ -7,7 +7,7 @@ ghost use Rattle.grammar.specs.Matching.{Within, Reads, Steps};
 ghost use Rattle.declarations.specs.Files.{Files};
 use crate::then_declaration;
 use grammar::joined;
-use grammar::settle;
+use grammar::optional;
 use lexis::blanks::then_blanks;
 use lexis::texts::then_literal;
 use lexis::tokens::then_whitespace;
@@ -28,7 +28,7 @@ fn then_endianness(s: &[u8], m: Match) -> Match
     if let Match::Took(_, _) = x {
         return x;
     }
-    then_literal(s, settle(s, m, x), b"big_endian_packets")
+    then_literal(s, optional(s, m, x), b"big_endian_packets")
 }
 
 // The endianness line, where m ends.
@@ -55,7 +55,7 @@ fn then_more(s: &[u8], m: Match) -> Match
     loop {
         let next = then_declaration(s, then_blanks(s, at));
         match next {
-            Match::Missed(_) => return settle(s, at, next),
+            Match::Missed(_) => return optional(s, at, next),
             Match::Took(_, _) => at = next,
         }
     }
@@ -66,7 +66,7 @@ fn then_declarations(s: &[u8], m: Match) -> Match
     requires { ⌜ Within m (now s) ⌝ }
     ensures { λ r. ⌜ Steps m (repeat declaration) (now (s .entry)) r ⌝ }
 {
-    settle(s, m, then_more(s, then_declaration(s, m)))
+    optional(s, m, then_more(s, then_declaration(s, m)))
 }
 
 // The end of input.

@@ -8,7 +8,7 @@ ghost use Rattle.grammar.specs.Matching.{Within};
 ghost use Rattle.spans.specs.Answers.{Headed, noHeader};
 ghost use Rattle.declarations.specs.Headers.{enum-head, packet-head, struct-head, group-head, checksum-head, custom-head, Heads};
 use constraints::then_constraint_list;
-use grammar::settle;
+use grammar::optional;
 use lexis::blanks::next_literal;
 use lexis::blanks::then_blanks;
 use lexis::texts::then_literal;
@@ -76,12 +76,12 @@ fn parent_head(s: &[u8], k: Match) -> Header
     let b = then_blanks(s, id);
     let c = then_blanks(s, then_literal(s, b, b":"));
     let parent = then_identifier(s, c);
-    let d = then_blanks(s, settle(s, b, parent));
+    let d = then_blanks(s, optional(s, b, parent));
     let e = then_blanks(s, then_literal(s, d, b"("));
     let list = then_constraint_list(s, e);
     let closed = next_literal(s, list, b")");
     kept_header(Header {
-        at: next_literal(s, settle(s, d, closed), b"{"),
+        at: next_literal(s, optional(s, d, closed), b"{"),
         keyword: between(start, k),
         id: between(a, id),
         parent: kept_part(parent, Part::Here(between(c, parent))),
@@ -158,7 +158,7 @@ pub fn custom_field_head(s: &[u8]) -> Header
     let b = then_blanks(s, id);
     let c = then_blanks(s, then_literal(s, b, b":"));
     let width = then_integer(s, c);
-    let d = then_blanks(s, settle(s, b, width));
+    let d = then_blanks(s, optional(s, b, width));
     let at = then_string(s, d);
     kept_header(Header {
         at,

@@ -13,7 +13,7 @@ use crate::headers::struct_head;
 use crate::tests::test_declaration;
 use fields::then_field_list;
 use grammar::joined;
-use grammar::settle;
+use grammar::optional;
 use lexis::blanks::next_literal;
 use lexis::blanks::then_blanks;
 use lexis::texts::literal;
@@ -39,7 +39,7 @@ fn next_fields(s: &[u8], m: Match) -> Match
     ensures { λ r. ⌜ Steps m (seq skip (opt field-list)) (now (s .entry)) r ⌝ }
 {
     let b = then_blanks(s, m);
-    settle(s, b, then_field_list(s, b))
+    optional(s, b, then_field_list(s, b))
 }
 
 // A packet.

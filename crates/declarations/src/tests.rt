@@ -2,7 +2,7 @@
 ghost use Rattle.meaning.specs.Peg.{seq, star};
 ghost use Rattle.meaning.specs.Pdl.{text, _~_, skip, test-case, test-case-list, test-declaration};
 ghost use Rattle.grammar.specs.Matching.{Within, Reads, Steps};
-use grammar::settle;
+use grammar::optional;
 use lexis::blanks::next_literal;
 use lexis::blanks::then_blanks;
 use lexis::blanks::then_last_comma;
@@ -45,7 +45,7 @@ fn then_commas(s: &[u8], m: Match) -> Match
     loop {
         let next = then_comma(s, then_blanks(s, at));
         match next {
-            Match::Missed(_) => return settle(s, at, next),
+            Match::Missed(_) => return optional(s, at, next),
             Match::Took(_, _) => at = next,
         }
     }
@@ -57,7 +57,7 @@ fn then_test_case_list(s: &[u8], m: Match) -> Match
     ensures { λ r. ⌜ Steps m test-case-list (now (s .entry)) r ⌝ }
 {
     let b = then_blanks(s, then_test_case(s, m));
-    let all = settle(s, b, then_commas(s, then_comma(s, b)));
+    let all = optional(s, b, then_commas(s, then_comma(s, b)));
     then_last_comma(s, all)
 }
 

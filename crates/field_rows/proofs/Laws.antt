@@ -14,7 +14,7 @@ use Rattle.meaning.specs.Pdl.{constraint-list}
 use Rattle.meaning.specs.Convert.{convert, reasonOf}
 use Rattle.meaning.specs.Tables.{Table, size, Item, int, row, rowsOf, count, firstOf, Lent}
 use Rattle.meaning.specs.Walk.{node, number, value-of, textOf, each, constraint-number, constraint-row, parse-constraint-list, parse-field-list}
-use Rattle.grammar.specs.Bounds.{Held, wider}
+use Rattle.grammar.specs.Limits.{Limits, wider}
 use Rattle.spans.specs.declared.Constraint.{Constraint}
 use Rattle.spans.specs.declared.Condition.{Condition}
 use Rattle.spans.specs.declared.Condition.the-variants.{Always, If}
@@ -27,16 +27,16 @@ use Rattle.walk.specs.declared.Number.{Number}
 use Rattle.walk.specs.declared.Walk.{Walk}
 use Rattle.walk.specs.declared.Door.the-variants.{Write}
 use Rattle.walk.specs.State.{slot, counted, lend, Wrote, At, Goes, same, Came, Knows, Put}
-use Rattle.walk.specs.Steps.{Sound, count-append, no-rows, wrote-none, wrote-then, wrote-in, wrote-as, at-on, goes-then, noted-goes, same-counts}
+use Rattle.walk.specs.Steps.{Sound, count-append, no-rows, wrote-none, wrote-then, wrote-in, wrote-as, at-on, goes-then, integer-goes, same-counts}
 use Rattle.walk.specs.Doors.{put-asks, put-wrote, put-goes, stood}
 use Rattle.walk.specs.Sounds.{field-sized}
 use Rattle.walk.specs.Terms.{integerItems, fieldWords}
 use Rattle.walk.specs.Insides.{constraint-inside}
 use Rattle.walk.specs.Lists.{GoesOne, found-some, found-in}
 use Rattle.constraint_rows.specs.Constraints.{Placed, GoesRow}
-use Rattle.constraint_rows.specs.Listed.{partNodes, Begun, GoesPart}
+use Rattle.constraint_rows.specs.OptionalLists.{partNodes, Begun, GoesPart}
 use Rattle.field_rows.specs.DescTerms.{describedAs, InsideDesc, Numbers, numbered, descItems}
-use Rattle.field_rows.specs.DescHeld.{desc-inside, group-held}
+use Rattle.field_rows.specs.DescLimits.{desc-inside, group-limits}
 use Rattle.field_rows.specs.Halves.{Halves, desc-hit, halves}
 use Rattle.field_rows.specs.Items.{condNumber, condRows, condWord, InsideCondition, condition-sound, fieldSays, fieldGroup, fieldCount, fieldRow, fieldItems, field-items}
 use Rattle.field_rows.specs.Fields.{field-form, own-items, by, notedDesc, Ready, At-condition, Past-condition, Conditioned, GoesCondition}
@@ -93,8 +93,8 @@ desc-goes {d} {src} {k} {n} {m} a z e h = subst (λ (x : Walk). Goes (descItems 
   where
     go : (b : Bool) → Goes (pick b (integerItems (d .nb) ++ integerItems (d .na)) (integerItems (d .na) ++ integerItems (d .nb))) src k n
         (pick b (by (d .na) (by (d .nb) n)) (by (d .nb) (by (d .na) n))) a a
-    go true = let x = noted-goes (z .nb) a refl h in goes-then x (noted-goes (z .na) a refl (x .at))
-    go false = let x = noted-goes (z .na) a refl h in goes-then x (noted-goes (z .nb) a refl (x .at))
+    go true = let x = integer-goes (z .nb) a refl h in goes-then x (integer-goes (z .na) a refl (x .at))
+    go false = let x = integer-goes (z .na) a refl h in goes-then x (integer-goes (z .nb) a refl (x .at))
 
 -- the list that the code has is the description's
 pub group-as : {src : List ℕ} {at : ℕ} {x y : SpanPart} {n r : Walk} {a b : Lent → Lent} → x ≡ y → GoesPart src at x n r a b → GoesPart src at y n r a b
@@ -120,7 +120,7 @@ module _ {src : List ℕ} {at : ℕ} {f : FieldMatch} {n : Walk} (w : Ready src 
         (omega (arith, two .fits, end-in, w .found .within)) (two .first)),
   )
 
-  inside-if : (c : Condition) → Held (at + two .k) end (drawCondition at c) → InsideCondition (length src - at) c
+  inside-if : (c : Condition) → Limits (at + two .k) end (drawCondition at c) → InsideCondition (length src - at) c
   inside-if Always h = tt
   inside-if (If c) h =
       constraint-inside at (taken (f .at)) (length src - at) c (omega (arith, end-in))
@@ -137,7 +137,7 @@ module _ {src : List ℕ} {at : ℕ} {f : FieldMatch} {n : Walk} (w : Ready src 
 
     noting : (a : Lent → Lent) → Goes ints src at n k a a
     noting a =
-        let x = noted-goes (subst Sound (sym ev) (condition-sound src at (f .cond))) a em (w .came) in
+        let x = integer-goes (subst Sound (sym ev) (condition-sound src at (f .cond))) a em (w .came) in
         goes-then x (desc-goes a (subst Numbers (sym ed) (numbered src at (f .desc .desc))) ek (x .at))
 
     pub start-ready : At src at k
@@ -160,12 +160,12 @@ module _ {src : List ℕ} {at : ℕ} {f : FieldMatch} {n : Walk} (w : Ready src 
         group-at : At src (at + two .k) g
         group-at =
             wg .came at (at + two .k) (omega arith) (omega (arith, two .fits, end-in))
-            (group-held at (at + two .k) at (drop at src) (taken (f .desc .at)) (f .desc .desc) (two .first))
+            (group-limits at (at + two .k) at (drop at src) (taken (f .desc .at)) (f .desc .desc) (two .first))
 
         pub grows : counted Table.constraints a ≤ counted Table.constraints g
         grows = omega (arith, wg .wrote .counts Table.constraints)
 
-        stands-if : (x : Condition) → f .cond ≡ x → Held (at + two .k) end (drawCondition at x) → At-condition src at x g
+        stands-if : (x : Condition) → f .cond ≡ x → Limits (at + two .k) end (drawCondition at x) → At-condition src at x g
         stands-if Always e h = tt
         stands-if (If x) e h =
             let b : at + two .k ≤ at + x .span .start = h .0 in
@@ -178,7 +178,7 @@ module _ {src : List ℕ} {at : ℕ} {f : FieldMatch} {n : Walk} (w : Ready src 
         condition-stands = record { within = w .found .within; number = ev; stands = stands-if (f .cond) refl (two .second) }
 
         module _ {h : Walk} {c'' : List ℕ} (wc : GoesCondition src at (f .cond) g h (lend Table.constraints c') (lend Table.constraints c'')) where
-          past-if : (x : Condition) → f .cond ≡ x → Held (at + two .k) end (drawCondition at x) → Past-condition src at x g h → At src end h
+          past-if : (x : Condition) → f .cond ≡ x → Limits (at + two .k) end (drawCondition at x) → Past-condition src at x g h → At src end h
           past-if Always e i p = subst (λ (y : Walk). At src end y) (sym p) (at-on (omega (arith, two .fits)) end-in group-at)
           past-if (If x) e i p =
               p end (i .1 .0) end-in (omega (arith, group-at .few Table.constraints, two .some _ _ _ _ _ (ap (drawCondition at) e)))

@@ -28,7 +28,7 @@ use Rattle.walk.specs.declared.Number.{Number}
 use Rattle.walk.specs.Terms.{numberAt, noNumber, spanNumber, operandNumber, sizeNumber, integerItems, noName, spanName, operandName, sizeName, partName, targetName, Inside, InsideOperand, InsideSize, InsidePart, InsideTarget, fieldWords}
 use Rattle.walk.specs.Steps.{Sound}
 use Rattle.walk.specs.Sounds.{number-sound, none-sound, operand-sound, size-sound}
-use Rattle.constraint_rows.specs.Listed.{partNodes}
+use Rattle.constraint_rows.specs.OptionalLists.{partNodes}
 
 -- ---- names a, b, c and numbers a, b, by the kind of a description
 abbrev pub terms : ℕ → Name → Name → Name → Number → Number → Described
@@ -108,21 +108,21 @@ pub record Says (src : List ℕ) (x : Described) (g : Forest) (d : Desc) : Type 
   pub group : d .group ≡ g
 
 module _ (src : List ℕ) (o : ℕ) (t : List ℕ) (n : ℕ) (more : Forest) where
-  abbrev Told : FieldDesc → Type 0
-  Told f = Says src (describedAs src o f) (partNodes o t (descList f)) (described (drawDesc o t n f ⊕ more))
+  abbrev DescSays : FieldDesc → Type 0
+  DescSays f = Says src (describedAs src o f) (partNodes o t (descList f)) (described (drawDesc o t n f ⊕ more))
 
-  size-says : (id : Target) (width : Span) → Told (Size id width)
+  size-says : (id : Target) (width : Span) → DescSays (Size id width)
   unfolding describe numbers numberAt fieldWords
   size-says (OfField x) width = record { words = λ s l first n cond. refl; ints = refl; group = refl }
   size-says (OfPayload x) width = record { words = λ s l first n cond. refl; ints = refl; group = refl }
   size-says (OfBody x) width = record { words = λ s l first n cond. refl; ints = refl; group = refl }
 
-  payload-says : (modifier : Part) → Told (Payload modifier)
+  payload-says : (modifier : Part) → DescSays (Payload modifier)
   unfolding describe numbers numberAt fieldWords
   payload-says Absent = record { words = λ s l first n cond. refl; ints = refl; group = refl }
   payload-says (Here x) = record { words = λ s l first n cond. refl; ints = refl; group = refl }
 
-  array-says : (id : Span) (element : Operand) (size : ArraySize) → Told (Array id element size)
+  array-says : (id : Span) (element : Operand) (size : ArraySize) → DescSays (Array id element size)
   unfolding describe numbers numberAt fieldWords
   array-says id (Identifier e) Unknown = record { words = λ s l first n cond. refl; ints = refl; group = refl }
   array-says id (Identifier e) (Modifier x) = record { words = λ s l first n cond. refl; ints = refl; group = refl }
@@ -131,12 +131,12 @@ module _ (src : List ℕ) (o : ℕ) (t : List ℕ) (n : ℕ) (more : Forest) whe
   array-says id (Integer e) (Modifier x) = record { words = λ s l first n cond. refl; ints = refl; group = refl }
   array-says id (Integer e) (Known x) = record { words = λ s l first n cond. refl; ints = refl; group = refl }
 
-  group-says : (id : Span) (list : Part) → Told (Group id list)
+  group-says : (id : Span) (list : Part) → DescSays (Group id list)
   unfolding describe numbers numberAt fieldWords
   group-says id Absent = record { words = λ s l first n cond. refl; ints = refl; group = refl }
   group-says id (Here x) = record { words = λ s l first n cond. refl; ints = refl; group = refl }
 
-  pub says : (f : FieldDesc) → Told f
+  pub says : (f : FieldDesc) → DescSays f
   unfolding describe numbers numberAt fieldWords
   says (Checksum id) = record { words = λ s l first n cond. refl; ints = refl; group = refl }
   says (Padding size) = record { words = λ s l first n cond. refl; ints = refl; group = refl }

@@ -21,7 +21,7 @@ use Rattle.spans.specs.Answers.{Fielded}
 use Rattle.walk.specs.declared.Described.{Described}
 use Rattle.walk.specs.declared.Number.{Number}
 use Rattle.walk.specs.declared.Walk.{Walk}
-use Rattle.walk.specs.State.{counted, noted, Wrote, At}
+use Rattle.walk.specs.State.{counted, afterInteger, Wrote, At}
 use Rattle.walk.specs.Insides.{InsideConstraint}
 use Rattle.walk.specs.Lists.{Form, Found}
 use Rattle.constraint_rows.specs.Constraints.{rowEnd}
@@ -74,7 +74,7 @@ field-form =
 
 -- ---- the state after a number, and after a description's numbers
 abbrev pub by : Number → Walk → Walk
-by x n = noted (x .place) (x .reason) n
+by x n = afterInteger (x .place) (x .reason) n
 
 abbrev pub notedDesc : Described → Walk → Walk
 notedDesc d n = pick (eqb (d .kind) 8) (by (d .na) (by (d .nb) n)) (by (d .nb) (by (d .na) n))

@@ -14,7 +14,7 @@ use Rattle.meaning.specs.Pdl.{text, _~_, skip, constraint, field-desc, field}
 use Rattle.grammar.specs.Hits.{hit-before, hit-behind, taken-after, taken-opt}
 use Rattle.grammar.specs.Stars.{hit-pos}
 use Rattle.grammar.specs.Nodes.{nodes-seq, nodes-opt, nodes-rule}
-use Rattle.grammar.specs.Bounds.{Held, nodes-held}
+use Rattle.grammar.specs.Limits.{Limits, nodes-limits}
 use Rattle.lexis.specs.Leaves.{skip-none}
 use Rattle.spans.specs.declared.FieldDesc.{FieldDesc}
 use Rattle.spans.specs.declared.FieldDesc.the-variants.{Checksum, Padding, Size, Count, ElementSize, Body, Payload, FixedScalar, FixedEnum, Reserved, Array, Scalar, Typedef, Group}
@@ -43,8 +43,8 @@ following-desc o t n (Group id constraints) w = refl
 pub record Halves (o n : ℕ) (v w : Forest) : Type 0 where
   pub k : ℕ
   pub fits : k ≤ n
-  pub first : Held o (o + k) v
-  pub second : Held (o + k) (o + n) w
+  pub first : Limits o (o + k) v
+  pub second : Limits (o + k) (o + n) w
   pub some : (r : Rule) (s l : ℕ) (kids more : Forest) → w ≡ tree r s l kids more → k + 1 ≤ n
 
 -- what a field is made of: its description, and blanks with the condition
@@ -128,9 +128,9 @@ module _ {t : List ℕ} {f : FieldMatch} (d : Fielded t f) (h : hit (f .at) ≡ 
       record {
         k = cut t;
         fits = omega (arith, long);
-        first = subst (Held o (o + cut t)) (d .described .drawn .draws desc-hit o) (nodes-held (bytewise field-desc) o t);
+        first = subst (Limits o (o + cut t)) (d .described .drawn .draws desc-hit o) (nodes-limits (bytewise field-desc) o t);
         second =
-            subst (Held (o + cut t) (o + taken (f .at))) (condition-is o)
-            (subst (λ (j : ℕ). Held (o + cut t) j (back o t)) i (nodes-held (bytewise tail) (o + cut t) (drop (cut t) t)));
+            subst (Limits (o + cut t) (o + taken (f .at))) (condition-is o)
+            (subst (λ (j : ℕ). Limits (o + cut t) j (back o t)) i (nodes-limits (bytewise tail) (o + cut t) (drop (cut t) t)));
         some = λ r s l kids more x. omega (arith, long, tail-some (o + cut t) (drop (cut t) t) r s l kids more back-hit (condition-is o ∙ x));
       }

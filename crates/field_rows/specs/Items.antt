@@ -22,7 +22,7 @@ use Rattle.walk.specs.Sounds.{none-sound, operand-sound}
 use Rattle.walk.specs.Insides.{InsideConstraint}
 use Rattle.walk.specs.DrawnItems.{constraint-items, constraint-words}
 use Rattle.constraint_rows.specs.Constraints.{rowWords}
-use Rattle.constraint_rows.specs.Listed.{partNodes, partItems}
+use Rattle.constraint_rows.specs.OptionalLists.{partNodes, partItems}
 use Rattle.field_rows.specs.DescTerms.{describedAs, descItems, rowOf, Says, says}
 use Rattle.field_rows.specs.Halves.{following-desc}
 use Rattle.field_rows.specs.Counts.{shape, rows, fieldBy, field-by}

@@ -1,5 +1,5 @@
 pub mod DescTerms
-pub mod DescHeld
+pub mod DescLimits
 pub mod Counts
 pub mod Halves
 pub mod Items

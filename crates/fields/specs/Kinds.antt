@@ -31,15 +31,15 @@ fieldOf kind.Payload = payload-field
 fieldOf kind.Fixed = fixed-field
 fieldOf kind.Reserved = reserved-field
 
--- r tells the description d, where the match m of it took
-pub record Told (m : Match) (d : FieldDesc) (r : DescMatch) : Type 0 where
+-- r is the description d with its match m, where m took
+pub record Description (m : Match) (d : FieldDesc) (r : DescMatch) : Type 0 where
   pub same : r .at ≡ m
   pub kept : r .desc ≡ pick (hit m) d Body
 
 -- so it answers what d draws
-pub told : {g : Peg} {t : List ℕ} {m : Match} {d : FieldDesc} {r : DescMatch} → Told m d r → Draws g t m (λ o. drawDesc o t (taken m) d)
+pub describes : {g : Peg} {t : List ℕ} {m : Match} {d : FieldDesc} {r : DescMatch} → Description m d r → Draws g t m (λ o. drawDesc o t (taken m) d)
     → (hit m ≡ true → MatchedPart constraint-list t (descList d)) → Described g t r
-told {g} {t} {m} {d} {r} k w s =
+describes {g} {t} {m} {d} {r} k w s =
     let e : hit m ≡ hit (r .at) = ap hit (sym (k .same)) in
     answer d (subst (λ (x : Match). Draws g t x (λ o. drawDesc o t (taken x) d)) (sym (k .same)) w) (λ h. s (e ∙ h))
     (k .kept ∙ ap (λ (b : Bool). pick b d Body) e)
@@ -49,12 +49,12 @@ pub record OrDesc (d : DescMatch) (more : Peg → Peg) (t : List ℕ) (r : DescM
   pub or : {a : Peg} → Described a t d → Described (more a) t r
 
 -- r is d, with the mark f of what was tried before it
-pub record Marked (f : ℕ) (d r : DescMatch) : Type 0 where
+pub record EarlierMark (f : ℕ) (d r : DescMatch) : Type 0 where
   pub later : r .at ≡ join 0 f (d .at)
   pub same : r .desc ≡ d .desc
 
 -- where g draws all that b does, only later, so it answers
-pub answers-later : {b g : Peg} {t : List ℕ} {d r : DescMatch} (f : ℕ) → Described b t d → Marked f d r
+pub answers-later : {b g : Peg} {t : List ℕ} {d r : DescMatch} (f : ℕ) → Described b t d → EarlierMark f d r
     → ((w : ℕ → Forest) → Draws b t (d .at) w → Draws g t (r .at) w) → Described g t r
 answers-later {t = t} {d = d} {r = r} f k m draws =
     let i : hit (d .at) ≡ hit (r .at) = sym (hit-join 0 f (d .at)) ∙ ap hit (sym (m .later)) in
@@ -69,7 +69,7 @@ answers-later {t = t} {d = d} {r = r} f k m draws =
 pub chosen : {a b : Peg} {t : List ℕ} {d : DescMatch} (n f : ℕ) → Described a t d → d .at ≡ Took n f → Described (a ∣ b) t d
 chosen n f k e = record { drawn = first n f (k .drawn) e; sound = k .sound; missed = k .missed }
 
-pub tried : {a b : Peg} {t : List ℕ} {x : Match} {d r : DescMatch} (f : ℕ) → Reads a t x → x ≡ Missed f → Described b t d → Marked f d r
+pub tried : {a b : Peg} {t : List ℕ} {x : Match} {d r : DescMatch} (f : ℕ) → Reads a t x → x ≡ Missed f → Described b t d → EarlierMark f d r
     → Described (a ∣ b) t r
 tried f n e k m = answers-later f k m (λ w v. second f n e v (m .later))
 

@@ -13,9 +13,9 @@ use Rattle.meaning.specs.Pdl.{text, _~_, _∣_, skip, identifier, integer, size
 use Rattle.grammar.specs.Matching.{Reads, Steps, stay}
 use Rattle.grammar.specs.Picks.{pick-true}
 use Rattle.grammar.specs.Fits.{lift-0}
-use Rattle.grammar.specs.Steps.{link, start, named}
+use Rattle.grammar.specs.Steps.{link, start, reads-rule}
 use Rattle.grammar.specs.Nodes.{nil-right}
-use Rattle.grammar.specs.Drawing.{Draws, Follows, then, whole, noted, second, other, retold}
+use Rattle.grammar.specs.Drawing.{Draws, Follows, then, whole, draws-rule, second, other, retold}
 use Rattle.spans.specs.declared.DescMatch.{DescMatch}
 use Rattle.spans.specs.declared.Span.{Span}
 use Rattle.spans.specs.declared.Operand.{Operand}
@@ -25,9 +25,9 @@ use Rattle.spans.specs.Spans.{spanOf}
 use Rattle.spans.specs.Drawn.{leafAt, drawOperand, drawArraySize}
 use Rattle.spans.specs.Parts.{gap, mark, name, number}
 use Rattle.spans.specs.Answers.{Continues, Free, Described}
-use Rattle.grammar.specs.Shared.{afresh, halted, second-noted}
+use Rattle.grammar.specs.Shared.{afresh, halted, second-rule}
 use Rattle.fields.specs.declared.parts.SizeMatch.{SizeMatch}
-use Rattle.fields.specs.Kinds.{Marked, answers-later}
+use Rattle.fields.specs.Kinds.{EarlierMark, answers-later}
 use Rattle.grammar.specs.Behind.{behind, behind-or, behind-both, last}
 
 -- in the order of the choice
@@ -35,7 +35,7 @@ unfoldable pub named-fields : Peg
 named-fields = array-field ∣ (scalar-field ∣ typedef-field) ∣ group-field
 
 -- behind a choice that missed they are its last parts
-pub or-named : {a : Peg} {t : List ℕ} {x : Match} {d r : DescMatch} (f : ℕ) → Reads a t x → x ≡ Missed f → Described named-fields t d → Marked f d r
+pub or-named : {a : Peg} {t : List ℕ} {x : Match} {d r : DescMatch} (f : ℕ) → Reads a t x → x ≡ Missed f → Described named-fields t d → EarlierMark f d r
     → Described (a ∣ array-field ∣ scalar-field ∣ typedef-field ∣ group-field) t r
 unfolding named-fields
 or-named {a} {t} f h e k m =
@@ -72,7 +72,7 @@ closed {r = r} {v = v} found f left size right e =
 pub arrayed : {t : List ℕ} {x : Match} {r : SizeMatch} {v : ℕ → Forest} → Follows (Took 0 0) typed t x v → Bracketed x t r
     → Draws array-field t (r .at) (λ o. tree Rule.array-field o (taken (r .at)) (v o ⊕ drawArraySize o (r .size)) nil)
 unfolding array-field
-arrayed f b = noted Rule.array-field refl (whole (b .on f))
+arrayed f b = draws-rule Rule.array-field refl (whole (b .on f))
 
 -- where d answers b, and its match is that of an element with the name id, r answers an array or b
 pub record OrArray (d : DescMatch) (id : Span) (element : Operand) (t : List ℕ) (r : DescMatch) : Type 0 where
@@ -105,7 +105,7 @@ module _ {t : List ℕ} {a b : Match} {id : Span} (f : Front t a b id) where
   pub scalar : {x : Match} {w : ℕ → Forest} → Follows b integer t x w
       → Draws scalar-field t x (λ o. tree Rule.scalar-field o (taken x) (leafAt Rule.identifier o id ⊕ w o) nil)
   unfolding scalar-field
-  scalar h = noted Rule.scalar-field refl (whole (with h))
+  scalar h = draws-rule Rule.scalar-field refl (whole (with h))
 
   -- a type, where no width stands
   module _ {x c y : Match} {w : ℕ → Forest} (i : ℕ) (width : Steps b integer t x) (e : x ≡ Missed i) (q : c ≡ stay b x)
@@ -114,7 +114,7 @@ module _ {t : List ℕ} {a b : Match} {id : Span} (f : Front t a b id) where
     unfolding typedef-field
     typedef =
         let z = afresh i (f .blanks-are .steps .fits) width e q type in
-        second-noted Rule.typedef-field refl i (scalar (number width) .reads) e (whole (with (z .follows))) (z .is)
+        second-rule Rule.typedef-field refl i (scalar (number width) .reads) e (whole (with (z .follows))) (z .is)
 
     -- and a group, where no type stands either
     pub group : {d r : Match} {v : ℕ → Forest} (g : ℕ) → y ≡ Missed g → d ≡ stay a y
@@ -124,6 +124,6 @@ module _ {t : List ℕ} {a b : Match} {id : Span} (f : Front t a b id) where
     group g h k braces =
         let again : y ≡ join 0 g y = h ∙ ap Missed (omega (arith, lift-0 g)) ∙ ap (join 0 g) (sym h) in
         let element = other i width e q type in
-        let no-array = named Rule.array-field (start (halted g (halted g (halted g (with element .steps) h) h) h)) in
+        let no-array = reads-rule Rule.array-field (start (halted g (halted g (halted g (with element .steps) h) h) h)) in
         let z = afresh g (f .name-is .steps .fits) (link (f .colon-is .steps) (link (f .blanks-are .steps) (element .steps))) h k braces in
-        second-noted Rule.group-field refl g (second g no-array h typedef again .reads) h (whole (then (f .name-is) (z .follows))) (z .is)
+        second-rule Rule.group-field refl g (second g no-array h typedef again .reads) h (whole (then (f .name-is) (z .follows))) (z .is)

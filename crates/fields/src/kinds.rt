@@ -1,7 +1,7 @@
 // The thirteen kinds of a field's description, each by its rule.
 ghost use Rattle.meaning.specs.Pdl.{checksum-field, padding-field, size-field, count-field, elementsize-field, body-field, payload-field, fixed-field, reserved-field, array-field, scalar-field, typedef-field, group-field};
 ghost use Rattle.spans.specs.Answers.{Described};
-ghost use Rattle.fields.specs.Kinds.{Told};
+ghost use Rattle.fields.specs.Kinds.{Description};
 use crate::parts::counted;
 use crate::parts::next_byte;
 use crate::parts::next_number;
@@ -12,7 +12,7 @@ use crate::parts::then_labelled;
 use crate::parts::then_names;
 use crate::parts::then_numbers;
 use crate::parts::then_target;
-use grammar::settle;
+use grammar::optional;
 use lexis::blanks::then_blanks;
 use lexis::texts::literal;
 use lexis::texts::then_literal;
@@ -27,7 +27,7 @@ use spans::kept_part;
 
 // A description, where its match took; else that of a body.
 pub fn described(at: Match, desc: FieldDesc) -> DescMatch
-    ensures { λ r. ⌜ Told at desc r ⌝ }
+    ensures { λ r. ⌜ Description at desc r ⌝ }
 {
     let there = grammar::took(at);
     if there {
@@ -113,7 +113,7 @@ pub fn payload_field(s: &[u8]) -> DescMatch
     let c = then_blanks(s, next_byte(s, then_literal(s, b, b":"), b'['));
     let d = then_size_modifier(s, c);
     let x = next_byte(s, d, b']');
-    let at = settle(s, b, x);
+    let at = optional(s, b, x);
     let modifier = kept_part(x, Part::Here(between(c, d)));
     described(at, FieldDesc::Payload(modifier))
 }
@@ -133,7 +133,7 @@ pub fn fixed_field(s: &[u8]) -> DescMatch
             desc: FieldDesc::FixedScalar(value, width),
         };
     }
-    let y = then_names(s, settle(s, b, at));
+    let y = then_names(s, optional(s, b, at));
     let end = y.at;
     let tag = y.first;
     let name = y.second;

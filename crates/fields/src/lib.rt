@@ -9,7 +9,7 @@ ghost use Rattle.meaning.specs.Peg.{seq, star, hit};
 ghost use Rattle.meaning.specs.Pdl.{text, _~_, _∣_, skip, field-desc, field, field-list};
 ghost use Rattle.grammar.specs.Matching.{Within, Reads, Steps};
 ghost use Rattle.spans.specs.Answers.{Described, Fielded};
-ghost use Rattle.fields.specs.Kinds.{word-fields, fieldOf, Marked, OrDesc};
+ghost use Rattle.fields.specs.Kinds.{word-fields, fieldOf, EarlierMark, OrDesc};
 ghost use Rattle.fields.specs.Words.{OnlyKind};
 ghost use Rattle.spans.specs.declared.Condition.the-variants.{Always, If};
 use crate::kinds::body_field;
@@ -24,7 +24,7 @@ use crate::kinds::size_field;
 use crate::named::named_field;
 use constraints::then_constraint;
 use grammar::joined;
-use grammar::settle;
+use grammar::optional;
 use lexis::blanks::then_blanks;
 use lexis::blanks::then_last_comma;
 use lexis::texts::literal;
@@ -69,7 +69,7 @@ fn of_kind(s: &[u8], kind: FieldKind) -> DescMatch
 // d, with the mark of what was tried before it.
 fn marked(s: &[u8], f: usize, d: DescMatch) -> DescMatch
     requires { ⌜ Within (d .at) (now s) ⌝ }
-    ensures { λ r. ⌜ Marked f d r ⌝ }
+    ensures { λ r. ⌜ EarlierMark f d r ⌝ }
 {
     let at = d.at;
     let desc = d.desc;
@@ -213,7 +213,7 @@ pub fn field(s: &[u8]) -> FieldMatch
     let word = then_literal(s, b, b"if");
     if let Match::Missed(_) = word {
         return FieldMatch {
-            at: settle(s, b, word),
+            at: optional(s, b, word),
             desc,
             cond: Condition::Always,
         };
@@ -221,7 +221,7 @@ pub fn field(s: &[u8]) -> FieldMatch
     let c = then_constraint(s, then_blanks(s, word));
     let x = c.at;
     let constraint = c.constraint;
-    let at = settle(s, b, x);
+    let at = optional(s, b, x);
     FieldMatch {
         at,
         desc,
@@ -261,7 +261,7 @@ fn then_commas(s: &[u8], m: Match) -> Match
     loop {
         let next = then_comma(s, then_blanks(s, at));
         match next {
-            Match::Missed(_) => return settle(s, at, next),
+            Match::Missed(_) => return optional(s, at, next),
             Match::Took(_, _) => at = next,
         }
     }
@@ -273,7 +273,7 @@ pub fn then_field_list(s: &[u8], m: Match) -> Match
     ensures { λ r. ⌜ Steps m field-list (now (s .entry)) r ⌝ }
 {
     let b = then_blanks(s, then_field(s, m));
-    let all = settle(s, b, then_commas(s, then_comma(s, b)));
+    let all = optional(s, b, then_commas(s, then_comma(s, b)));
     then_last_comma(s, all)
 }
 

@@ -6,7 +6,7 @@ use crate::kinds::described;
 use crate::parts::next_byte;
 use crate::parts::then_braces;
 use crate::parts::then_brackets;
-use grammar::settle;
+use grammar::optional;
 use lexis::blanks::then_blanks;
 use lexis::tokens::then_identifier;
 use lexis::tokens::then_integer;
@@ -34,7 +34,7 @@ fn or_array(s: &[u8], d: DescMatch, id: Span, element: Operand) -> DescMatch
     }
     let desc = d.desc;
     DescMatch {
-        at: settle(s, end, at),
+        at: optional(s, end, at),
         desc,
     }
 }
@@ -56,7 +56,7 @@ pub fn named_field(s: &[u8]) -> DescMatch
         };
         return or_array(s, scalar, id, Operand::Integer(span));
     }
-    let c = settle(s, b, width);
+    let c = optional(s, b, width);
     let name = then_identifier(s, c);
     if let Match::Took(_, _) = name {
         let span = between(c, name);
@@ -66,7 +66,7 @@ pub fn named_field(s: &[u8]) -> DescMatch
         };
         return or_array(s, typedef, id, Operand::Identifier(span));
     }
-    let group = then_braces(s, settle(s, a, name));
+    let group = then_braces(s, optional(s, a, name));
     let at = group.at;
     let list = group.list;
     described(at, FieldDesc::Group(id, list))

@@ -17,7 +17,7 @@ ghost use Rattle.spans.specs.declared.Target.the-variants.{OfField};
 ghost use Rattle.fields.specs.Tokens.{Leafed, Paired};
 ghost use Rattle.fields.specs.Named.{Bracketed};
 use constraints::then_constraint_list;
-use grammar::settle;
+use grammar::optional;
 use lexis::blanks::next_literal;
 use lexis::blanks::then_blanks;
 use lexis::texts::then_literal;
@@ -184,7 +184,7 @@ pub fn then_target(s: &[u8], m: Match) -> TargetMatch
             target: Target::OfField(between(m, x)),
         };
     }
-    let b = settle(s, m, x);
+    let b = optional(s, m, x);
     let y = then_payload_identifier(s, b);
     if let Match::Took(_, _) = y {
         return TargetMatch {
@@ -192,7 +192,7 @@ pub fn then_target(s: &[u8], m: Match) -> TargetMatch
             target: Target::OfPayload(between(b, y)),
         };
     }
-    let c = settle(s, m, y);
+    let c = optional(s, m, y);
     let z = then_body_identifier(s, c);
     TargetMatch {
         at: z,
@@ -212,7 +212,7 @@ pub fn then_element(s: &[u8], m: Match) -> OperandMatch
             operand: Operand::Integer(between(m, x)),
         };
     }
-    let b = settle(s, m, x);
+    let b = optional(s, m, x);
     let y = then_identifier(s, b);
     OperandMatch {
         at: y,
@@ -243,7 +243,7 @@ pub fn then_size(s: &[u8], m: Match) -> SizeMatch
             size: ArraySize::Modifier(between(m, x)),
         };
     }
-    let b = settle(s, m, x);
+    let b = optional(s, m, x);
     let y = then_integer(s, b);
     SizeMatch {
         at: y,
@@ -260,7 +260,7 @@ pub fn then_brackets(s: &[u8], m: Match) -> SizeMatch
     let size = then_size(s, b);
     let x = size.at;
     let found = size.size;
-    let at = next_byte(s, settle(s, b, x), b']');
+    let at = next_byte(s, optional(s, b, x), b']');
     SizeMatch {
         at,
         size: kept_size(at, found),
@@ -283,16 +283,16 @@ pub fn then_braces(s: &[u8], m: Match) -> ListMatch
     let left = then_literal(s, b, b"{");
     if let Match::Missed(_) = left {
         return ListMatch {
-            at: settle(s, b, left),
+            at: optional(s, b, left),
             list: Part::Absent,
         };
     }
     let c = then_blanks(s, left);
     let list = then_constraint_list(s, c);
-    let braces = next_byte(s, settle(s, c, list), b'}');
+    let braces = next_byte(s, optional(s, c, list), b'}');
     let inner = kept_part(list, Part::Here(between(c, list)));
     ListMatch {
-        at: settle(s, b, braces),
+        at: optional(s, b, braces),
         list: kept_part(braces, inner),
     }
 }

@@ -162,7 +162,7 @@ module _ {M : Type 1} (𝓤 : URA M) (H : Heap 𝓤) (A : Atoms 𝓤) (W : Given
       returns ! (look ! 20 refl) $ forget ! 3 refl $ forget ! 5 refl $ forget ! 7 refl $ forget ! 9 refl $ forget ! 11 refl $
       forget ! 14 refl $ forget ! 16 refl $ forget ! 18 refl $ forget ! 20 refl $
       move ! (20 ∷ 21 ∷ []) $ free1 ! $ move ! (18 ∷ 19 ∷ []) $ free1 ! $ move ! (16 ∷ 17 ∷ []) $ free1 ! $ move ! (14 ∷ 15 ∷ []) $ free1 ! $
-      move ! (13 ∷ []) $ words.free-words ! k bs (words.told 3 κs k (a .1 .1 .1)) $
+      move ! (13 ∷ []) $ words.free-words ! k bs (words.wordsOf 3 κs k (a .1 .1 .1)) $
       move ! (11 ∷ 12 ∷ []) $ free1 ! $ move ! (9 ∷ 10 ∷ []) $ free1 ! $ move ! (7 ∷ 8 ∷ []) $ free1 ! $ move ! (5 ∷ 6 ∷ []) $ free1 ! $
       move ! (3 ∷ 4 ∷ []) $ free1 ! $ free0 ! $ by ! (exits 𝓤 H A (adding E k) c κs qs bounds a g W vss r u))))))))))))))
 

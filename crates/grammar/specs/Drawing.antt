@@ -15,7 +15,7 @@ use Rattle.meaning.specs.Forest.{Forest, nil, tree, _⊕_, nodes}
 use Rattle.grammar.specs.Matching.{Within, Reads, Steps, stay}
 use Rattle.grammar.specs.Picks.{pick-false, pick-same}
 use Rattle.grammar.specs.Hits.{hit-join, hit-after, hit-before, hit-behind, taken-after}
-use Rattle.grammar.specs.Steps.{link, start, named, marked, option, choice, tried, join-0}
+use Rattle.grammar.specs.Steps.{link, start, reads-rule, steps-rule, option, choice, tried, join-0}
 use Rattle.grammar.specs.Fits.{join-join}
 use Rattle.grammar.specs.Nodes.{nodes-seq, nodes-rule, nodes-opt, nodes-alt}
 
@@ -91,11 +91,11 @@ then {m} {a} {b} {t} {x} {r} {v} {w} f g =
         (ap₂ (λ (i : ℕ) (u : List ℕ). nodes (bytewise b) i u) (omega (arith, e)) d ∙ g .draws h o)
 
 -- ---- a rule's own node
-pub noted : {g : Peg} {t : List ℕ} {r : Match} {w : ℕ → Forest} (k : Rule) → is Rule.COMMENT k ≡ false → Draws g t r w
+pub draws-rule : {g : Peg} {t : List ℕ} {r : Match} {w : ℕ → Forest} (k : Rule) → is Rule.COMMENT k ≡ false → Draws g t r w
     → Draws (rule k g) t r (λ o. tree k o (taken r) (w o) nil)
-noted {g} {t} {r} {w} k c d =
+draws-rule {g} {t} {r} {w} k c d =
     record {
-      reads = named k (d .reads);
+      reads = reads-rule k (d .reads);
       draws = λ h o.
           nodes-rule k (bytewise g) o t c (ap hit (sym (d .reads .is)) ∙ h)
           ∙ ap₂ (λ (n : ℕ) (v : Forest). tree k o n v nil) (ap taken (sym (d .reads .is))) (d .draws h o);
@@ -105,7 +105,7 @@ pub node : {m : Match} {g : Peg} {t : List ℕ} {r : Match} {w : ℕ → Forest}
     → Follows m (rule k g) t r (λ o. tree k (o + taken m) (taken r - taken m) (w o) nil)
 node {m} {g} {t} {r} {w} k c f =
     record {
-      steps = marked k (f .steps);
+      steps = steps-rule k (f .steps);
       draws = λ h o.
           nodes-rule k (bytewise g) (o + taken m) (drop (taken m) t) c (part-hit m g t r (f .steps) h)
           ∙ ap₂ (λ (n : ℕ) (v : Forest). tree k (o + taken m) n v nil) (part-taken m g t r (f .steps) h) (f .draws h o);

@@ -12,11 +12,11 @@ pub mod Silence
 pub mod Drawing
 pub mod Blanks
 pub mod Lists
-pub mod Bounds
+pub mod Limits
 pub mod Order
 pub mod Openings
 pub mod Choices
 pub mod Settled
 pub mod Shared
 pub mod Behind
-pub mod Telling
+pub mod Marks

@@ -14,16 +14,16 @@ use Rattle.grammar.specs.Matching.{eats}
 use Rattle.grammar.specs.Hits.{hit-before, hit-behind}
 use Rattle.grammar.specs.Stars.{hit-pos}
 use Rattle.grammar.specs.Nodes.{nodes-missed, nodes-seq, nodes-rule, nodes-alt}
-use Rattle.grammar.specs.Bounds.{Held, nodes-held}
+use Rattle.grammar.specs.Limits.{Limits, nodes-limits}
 
 -- ---- nodes that start at lo or behind it, side by side
 abbrev pub From : ℕ → Forest → Type 0
 From lo nil = Unit {0}
 From lo (tree r s l k more) = (lo ≤ s) × From lo more
 
-from-held : (lo a b : ℕ) (w : Forest) → lo ≤ a → Held a b w → From lo w
-from-held lo a b nil e h = tt
-from-held lo a b (tree r s l k more) e h = let x : a ≤ s = h .0 in (omega arith, from-held lo a b more e (h .1 .1 .1))
+from-limits : (lo a b : ℕ) (w : Forest) → lo ≤ a → Limits a b w → From lo w
+from-limits lo a b nil e h = tt
+from-limits lo a b (tree r s l k more) e h = let x : a ≤ s = h .0 in (omega arith, from-limits lo a b more e (h .1 .1 .1))
 
 from-⊕ : (lo : ℕ) (v w : Forest) → From lo v → From lo w → From lo (v ⊕ w)
 from-⊕ lo nil w h k = k
@@ -53,8 +53,8 @@ led-seq {a} {b} l =
           let hb : hit (run b (drop (taken (run a t)) t)) ≡ true = hit-behind (run a t) (λ u. run b u) t h in
           subst (λ (w : Forest). From (o + 1) (following w)) (sym (nodes-seq a b o t ha hb))
           (from-following (o + 1) (nodes a o t) (nodes b (o + taken (run a t)) (drop (taken (run a t)) t)) (l .behind o t ha)
-          (from-held (o + 1) (o + taken (run a t)) _ (nodes b (o + taken (run a t)) (drop (taken (run a t)) t))
-          (omega (arith, hit-pos a t (l .some) ha)) (nodes-held b (o + taken (run a t)) (drop (taken (run a t)) t))));
+          (from-limits (o + 1) (o + taken (run a t)) _ (nodes b (o + taken (run a t)) (drop (taken (run a t)) t))
+          (omega (arith, hit-pos a t (l .some) ha)) (nodes-limits b (o + taken (run a t)) (drop (taken (run a t)) t))));
     }
 
 -- the children of the first node

@@ -15,7 +15,7 @@ use Rattle.grammar.specs.Matching.{Within, Reads, Steps, stay}
 use Rattle.grammar.specs.Hits.{hit-join, taken-here}
 use Rattle.grammar.specs.Fits.{lift-0, join-join}
 use Rattle.grammar.specs.Steps.{steps, link}
-use Rattle.grammar.specs.Drawing.{Draws, Follows, noted, second, redrawn}
+use Rattle.grammar.specs.Drawing.{Draws, Follows, draws-rule, second, redrawn}
 
 -- ---- what is not tried
 -- behind a part that missed
@@ -69,7 +69,7 @@ afresh {m} {a} {b} {t} {x} {y} {r} {w} g i s e q f =
     }
 
 -- a rule that is tried after others that missed
-pub second-noted : {a b : Peg} {t : List ℕ} {x y r : Match} {w : ℕ → Forest} (k : Rule) → is Rule.COMMENT k ≡ false → (g : ℕ) → Reads a t x → x ≡ Missed g
+pub second-rule : {a b : Peg} {t : List ℕ} {x y r : Match} {w : ℕ → Forest} (k : Rule) → is Rule.COMMENT k ≡ false → (g : ℕ) → Reads a t x → x ≡ Missed g
     → Draws b t y w → r ≡ join 0 g y → Draws (alt a (rule k b)) t r (λ o. tree k o (taken r) (w o) nil)
-second-noted {y = y} {w = w} k c g h e d q =
-    second g h e (redrawn (noted k c d) (λ z o. ap (λ (n : ℕ). tree k o n (w o) nil) (sym (taken-here g y) ∙ ap taken (sym q)))) q
+second-rule {y = y} {w = w} k c g h e d q =
+    second g h e (redrawn (draws-rule k c d) (λ z o. ap (λ (n : ℕ). tree k o n (w o) nil) (sym (taken-here g y) ∙ ap taken (sym q)))) q

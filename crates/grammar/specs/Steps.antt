@@ -90,13 +90,13 @@ pub taken-at : (n : ℕ) (t : List ℕ) {g : Peg} {x : Match} → Steps (Took 0 
     → taken x ≡ taken (run (bytewise g) (drop n t))
 taken-at n t h = ap taken (at n t (start h) .is)
 
-pub named : {g : Peg} {t : List ℕ} {r : Match} (k : Rule) → Reads g t r → Reads (rule k g) t r
+pub reads-rule : {g : Peg} {t : List ℕ} {r : Match} (k : Rule) → Reads g t r → Reads (rule k g) t r
 unfolding run
-named k h = record { is = h .is; fits = h .fits }
+reads-rule k h = record { is = h .is; fits = h .fits }
 
-pub marked : {g : Peg} {t : List ℕ} {m r : Match} (k : Rule) → Steps m g t r → Steps m (rule k g) t r
+pub steps-rule : {g : Peg} {t : List ℕ} {m r : Match} (k : Rule) → Steps m g t r → Steps m (rule k g) t r
 unfolding run
-marked k h = record { is = h .is; fits = h .fits }
+steps-rule k h = record { is = h .is; fits = h .fits }
 
 -- a wrapper's two arms
 pub missed : {g : Peg} {t : List ℕ} {m : Match} (f : ℕ) → Within m t → m ≡ Missed f → Steps m g t (Missed f)
@@ -134,8 +134,8 @@ unfolding run
 choice {a} {b} {t} {m} {r} h k = record { is = k .is ∙ ap (λ (x : Match). orElse x (λ u. run (bytewise b) u) t) (h .is); fits = k .fits }
 
 -- m took, or g is tried where it missed
-pub kept : {g : Peg} {t : List ℕ} {m : Match} (n f : ℕ) → Within m t → m ≡ Took n f → Tries m g t (Took n f)
-kept {g} {t} {m} n f w e = tries m g t (Took n f) w (ap (λ (x : Match). orElse x (λ u. run (bytewise g) u) t) (sym e))
+pub untried : {g : Peg} {t : List ℕ} {m : Match} (n f : ℕ) → Within m t → m ≡ Took n f → Tries m g t (Took n f)
+untried {g} {t} {m} n f w e = tries m g t (Took n f) w (ap (λ (x : Match). orElse x (λ u. run (bytewise g) u) t) (sym e))
 
 pub tried : {g : Peg} {t : List ℕ} {m x r : Match} (f : ℕ) → Within m t → m ≡ Missed f → Reads g t x → r ≡ join 0 f x → Tries m g t r
 tried {g} {t} {m} {x} {r} f w e h k =

@@ -31,7 +31,7 @@ pub fn joined(s: &[u8], n: usize, f: usize, m: Match) -> Match
 }
 
 // x, or, where x missed, m with the mark of x: an optional part that may be absent.
-pub fn settle(s: &[u8], m: Match, x: Match) -> Match
+pub fn optional(s: &[u8], m: Match, x: Match) -> Match
     requires { ⌜ Within m (now s) × Within x (now s) ⌝ }
     ensures { λ r. ⌜ Stays m x (now (s .entry)) r ⌝ }
 {

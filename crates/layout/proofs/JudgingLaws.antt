@@ -17,7 +17,7 @@ use Rattle.meaning.specs.Feeding.{word, Fed, fed-refused, feed-fields}
 use Rattle.ast.specs.RowLaws.{fits-iff, length-put, put-word, put-word-before}
 use Rattle.alignment.specs.Answers.{judged}
 use Rattle.alignment.specs.NumberLaws.{Sound, sound-is, BitsFit, bits-fit, ChunkFits, dyn-fit}
-use Rattle.alignment.specs.SoundLaws.{sound-kept}
+use Rattle.alignment.specs.SoundLaws.{sound-step}
 use Rattle.alignment.specs.LengthLaws.{same-end, same-judged}
 use Rattle.layout.specs.declared.Verdict.{Verdict}
 use Rattle.layout.specs.declared.Request.{Request}
@@ -97,8 +97,8 @@ module _ (ps cs : List ℕ) where
 sound-served : (r : Request) (i : ℕ) (w : World) → Sound w → Sound (served r i w .left)
 unfolding served
 sound-served Nothing i w s = s
-sound-served (Bits v) i w s = sound-kept (add-bitfield i v) w s
-sound-served Dynamic i w s = sound-kept (add-dyn-bytes i) w s
+sound-served (Bits v) i w s = sound-step (add-bitfield i v) w s
+sound-served Dynamic i w s = sound-step (add-dyn-bytes i) w s
 sound-served (Refused n) i w s = s
 
 -- ---- the whole

@@ -10,7 +10,7 @@ use crate::texts::literal;
 use crate::texts::then_literal;
 use crate::texts::then_up_to;
 use grammar::joined;
-use grammar::settle;
+use grammar::optional;
 use meaning::Match;
 
 // A block comment; an unclosed one is none.
@@ -82,5 +82,5 @@ pub fn then_last_comma(s: &[u8], m: Match) -> Match
     ensures { λ r. ⌜ Steps m (seq skip (opt (text ","))) (now (s .entry)) r ⌝ }
 {
     let b = then_blanks(s, m);
-    settle(s, b, then_literal(s, b, b","))
+    optional(s, b, then_literal(s, b, b","))
 }

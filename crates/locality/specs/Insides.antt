@@ -5,13 +5,13 @@ use Prim.Native.Nat.{ℕ, suc, _+_}
 use native.Mathlib.Omega.{arith}
 use Rattle.meaning.specs.Peg.{Peg}
 use Rattle.meaning.specs.Forest.{Forest, _⊕_}
-use Rattle.grammar.specs.Bounds.{Held, wider, held-⊕}
+use Rattle.grammar.specs.Limits.{Limits, wider, limits-⊕}
 use Rattle.locality.specs.Plain.{took, shift, plain}
 use Rattle.locality.specs.Holding.{Law, taken}
 use Rattle.locality.specs.Likeness.{placed, placed-⊕, placed-shift}
 
 abbrev pub Inside : ℕ → Forest → Type 0
-Inside n f = (o : ℕ) → Held o (o + n) (placed o f)
+Inside n f = (o : ℕ) → Limits o (o + n) (placed o f)
 
 abbrev Inner : Peg → List ℕ → ℕ → Forest → Type 0
 Inner p s n f = Inside n f
@@ -19,7 +19,7 @@ Inner p s n f = Inside n f
 two : (n m : ℕ) (f g : Forest) → Inside n f → Inside m g → Inside (n + m) (f ⊕ shift n g)
 two n m f g h k o =
     rw (placed-⊕ o f (shift n g), placed-shift o n g)
-    (held-⊕ o (o + (n + m)) (placed o f) (placed (o + n) g)
+    (limits-⊕ o (o + (n + m)) (placed o f) (placed (o + n) g)
     (wider o (o + n) o (o + (n + m)) (placed o f) (omega arith) (omega arith) (h o))
     (wider (o + n) (o + n + m) o (o + (n + m)) (placed (o + n) g) (omega arith) (omega arith) (k (o + n))))
 

@@ -72,45 +72,45 @@ line-says t h = go (prefixb little t) refl
     go false e = prefix-short little t (taken (run (bytewise endianness-declaration) t)) e ∙ sym e
 
 -- 1 little or 2 big, as the text t says at its front
-abbrev pub said : List ℕ → ℕ
-said t = pick (prefixb little t) 1 2
+abbrev pub byteOrder : List ℕ → ℕ
+byteOrder t = pick (prefixb little t) 1 2
 
 -- from the match of the word
-said-by : (t : List ℕ) {m : Match} {b : Bool} → Reads (lit little) t m → b ≡ hit m → pick b 1 2 ≡ said t
+order-by : (t : List ℕ) {m : Match} {b : Bool} → Reads (lit little) t m → b ≡ hit m → pick b 1 2 ≡ byteOrder t
 unfolding run
-said-by t h e = ap (λ (b : Bool). pick b 1 2) (e ∙ ap hit (h .is) ∙ go (prefixb little t))
+order-by t h e = ap (λ (b : Bool). pick b 1 2) (e ∙ ap hit (h .is) ∙ go (prefixb little t))
   where
     go : (b : Bool) → hit (pick b (Took (length little) 0) (Missed 1)) ≡ b
     go true = refl
     go false = refl
 
-pub said-little : {t : List ℕ} {m : Match} {b : Bool} → Reads (lit little) t m → b ≡ hit m → b ≡ true → 1 ≡ said t
-said-little {t} h e q = ap (λ (b : Bool). pick b 1 2) (sym q) ∙ said-by t h e
+pub order-little : {t : List ℕ} {m : Match} {b : Bool} → Reads (lit little) t m → b ≡ hit m → b ≡ true → 1 ≡ byteOrder t
+order-little {t} h e q = ap (λ (b : Bool). pick b 1 2) (sym q) ∙ order-by t h e
 
-pub said-big : {t : List ℕ} {m : Match} {b : Bool} → Reads (lit little) t m → b ≡ hit m → b ≡ false → 2 ≡ said t
-said-big {t} h e q = ap (λ (b : Bool). pick b 1 2) (sym q) ∙ said-by t h e
+pub order-big : {t : List ℕ} {m : Match} {b : Bool} → Reads (lit little) t m → b ≡ hit m → b ≡ false → 2 ≡ byteOrder t
+order-big {t} h e q = ap (λ (b : Bool). pick b 1 2) (sym q) ∙ order-by t h e
 
 -- ---- the words of a file that the grammar matches
 line-words : {src : List ℕ} → Matched src → endianness src (whole src)
-    ≡ endianness-words (said (drop (line-start src) src)) (place src (line-start src) (line-length src))
+    ≡ endianness-words (byteOrder (drop (line-start src) src)) (place src (line-start src) (line-length src))
 unfolding line-length
 line-words {src} m =
     ap
     (λ (w : Forest).
     let line = part Rule.endianness-declaration (part Rule.file w .kids) in
-    endianness-words (said (textOf src line)) (place src (line .start) (line .len)))
+    endianness-words (byteOrder (textOf src line)) (place src (line .start) (line .len)))
     (joined m)
-    ∙ ap₂ (λ (o n : ℕ). endianness-words (said (take n (drop o src))) (place src o n)) (line-node src (m .hits)) (line-node-length src (m .hits))
+    ∙ ap₂ (λ (o n : ℕ). endianness-words (byteOrder (take n (drop o src))) (place src o n)) (line-node src (m .hits)) (line-node-length src (m .hits))
     ∙ ap (λ (b : Bool). endianness-words (pick b 1 2) (place src (line-start src) (line-length src)))
     (line-says (drop (line-start src) src) (line-hit src (m .hits)))
 
 -- x is the line, k is said at its start, p and q are its places
 pub endianness-done : {src : List ℕ} {x : Line} {k : ℕ} {p q : SourceLocation} → Matched src → Lined src x
-    → k ≡ said (take (length src - x .start) (drop (x .start) src))
+    → k ≡ byteOrder (take (length src - x .start) (drop (x .start) src))
     → p ≡ placeAt src (x .start) → q ≡ placeAt src (x .end)
     → k ∷ p .offset ∷ p .line ∷ p .column ∷ q .offset ∷ q .line ∷ q .column ∷ [] ≡ endianness src (whole src)
 endianness-done {src} {x} {k} {p} {q} m h e i j =
-    let s : k ≡ said (drop (line-start src) src) = e ∙ ap said (rest-is (x .start) src) ∙ ap (λ (o : ℕ). said (drop o src)) (h .starts) in
+    let s : k ≡ byteOrder (drop (line-start src) src) = e ∙ ap byteOrder (rest-is (x .start) src) ∙ ap (λ (o : ℕ). byteOrder (drop o src)) (h .starts) in
     let a : p ≡ placeAt src (line-start src) = i ∙ ap (placeAt src) (h .starts) in
     let b : q ≡ placeAt src (line-end src) = j ∙ ap (placeAt src) (h .ends) in
     rw (s, a, b) (sym (line-words m))

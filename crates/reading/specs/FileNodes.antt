@@ -19,7 +19,7 @@ use Rattle.grammar.specs.Hits.{hit-before, hit-behind, taken-after}
 use Rattle.grammar.specs.Steps.{reads, steps}
 use Rattle.grammar.specs.Silence.{leaf-of}
 use Rattle.grammar.specs.Lists.{repeat-nodes}
-use Rattle.grammar.specs.Drawing.{Draws, Follows, from-start, whole, drawn, leaf, then, noted, retold}
+use Rattle.grammar.specs.Drawing.{Draws, Follows, from-start, whole, drawn, leaf, then, draws-rule, retold}
 use Rattle.lexis.specs.Skips.{skip-takes}
 use Rattle.lexis.specs.Leaves.{skip-none, endianness-declaration-leaf}
 use Rattle.spans.specs.Parts.{gap, sign}
@@ -92,7 +92,7 @@ module _ (t : List ℕ) where
   file-drawn : Draws file t end (λ o. tree Rule.file o (taken end) (drawing o) nil)
   unfolding file
   file-drawn =
-      noted Rule.file refl
+      draws-rule Rule.file refl
       (whole
       (then
       (then (then (start-follows t) (then (gap s-start) (leaf endianness-declaration-leaf s-line)))

@@ -9,7 +9,7 @@ use Rattle.meaning.specs.Peg.{run, bytewise, taken}
 use Rattle.meaning.specs.Pdl.{skip, endianness-declaration}
 use Rattle.grammar.specs.Matching.{Reads}
 use Rattle.grammar.specs.Steps.{at}
-use Rattle.grammar.specs.Bounds.{took-inside}
+use Rattle.grammar.specs.Limits.{took-inside}
 use Rattle.lexis.specs.Skips.{Skips}
 use Rattle.reading.specs.declared.files.Line.{Line}
 

@@ -8,7 +8,7 @@ ghost use Rattle.reading.specs.Lines.{Lined};
 ghost use Rattle.reading.specs.Sources.{Matched, whole, declared};
 ghost use Rattle.declaration_rows.specs.Ways.{four};
 ghost use Rattle.walk.specs.Totals.{Tabled};
-ghost use Rattle.reading.specs.Endianness.{said};
+ghost use Rattle.reading.specs.Endianness.{byteOrder};
 use ast::numbers;
 use declarations::files::endianness_declaration;
 use lexis::blanks::blanks;
@@ -49,7 +49,7 @@ fn place_of(s: &[u8], offset: usize) -> SourceLocation
 
 // 1 for little, 2 for big, as the line at the front says.
 fn endian(s: &[u8]) -> u64
-    ensures { λ r. ⌜ r ≡ said (now (s .entry)) ⌝ }
+    ensures { λ r. ⌜ r ≡ byteOrder (now (s .entry)) ⌝ }
 {
     let little = grammar::took(lexis::texts::literal(s, b"little_endian_packets"));
     if little {

@@ -3,6 +3,6 @@ pub mod Drawn
 pub mod Parts
 pub mod Optionals
 pub mod Answers
-pub mod Kept
+pub mod OptionalSteps
 pub mod Undrawn
 pub mod Settled

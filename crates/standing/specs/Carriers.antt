@@ -11,7 +11,7 @@ use Rattle.meaning.specs.Forest.{Forest, nil, tree}
 use Rattle.meaning.specs.Places.{at, placeAt}
 use Rattle.meaning.specs.Tables.{Table, Item, int, row}
 use Rattle.meaning.specs.Rows.{row-kind}
-use Rattle.grammar.specs.Bounds.{Held}
+use Rattle.grammar.specs.Limits.{Limits}
 use Rattle.meaning.specs.Moving.{Move, Sort, offset, line, column, name, first, condition, unless-none, unless-empty, moved-word, Moving, _moves-as_, moving, moved-words, moved-row, breaks}
 use Rattle.standing.specs.Joinings.{movedBy}
 use Rattle.standing.specs.Places.{on-line, drawn-back, end-of, place-before, place-behind}
@@ -76,7 +76,7 @@ nodes-still (tree r s l k more) =
     here : s + 0 ≡ s
     here = omega arith
 
-pub grove-still : (a e : ℕ) (w : Forest) → Held a e w → Grove a e 0 w w
+pub grove-still : (a e : ℕ) (w : Forest) → Limits a e w → Grove a e 0 w w
 grove-still a e w h = subst (λ (v : Forest). Grove a e 0 v w) (nodes-still w) (grove a e 0 w h)
 
 pub standing-bytes : (s t : List ℕ) → Carried s (s ++ t) 0 (length s) still

@@ -13,13 +13,13 @@ use Rattle.meaning.specs.Forest.{Forest, nil, tree, _⊕_, clean, outcome, eval
 use Rattle.meaning.specs.Pdl.{skip, EOI, file, rules}
 use Rattle.grammar.specs.Bytewise.{file-joined}
 use Rattle.grammar.specs.Nodes.{⊕-assoc}
-use Rattle.grammar.specs.Bounds.{Held}
+use Rattle.grammar.specs.Limits.{Limits}
 use Rattle.locality.specs.Plain.{Out, missed, took, shift, after, seqE, ruleE, plain}
 use Rattle.locality.specs.Holding.{allowed}
 use Rattle.locality.specs.Least.{least}
 use Rattle.locality.specs.PlainLaws.{shift-⊕}
 use Rattle.locality.specs.Likeness.{placed, placed-⊕, Like, steady, alike}
-use Rattle.grammar.specs.Bounds.{wider}
+use Rattle.grammar.specs.Limits.{wider}
 use Rattle.locality.specs.Insides.{inside}
 use Rattle.locality.specs.Closings.{Final, end-final, seq-final}
 use Rattle.standing.specs.Sources.{before, core}
@@ -74,7 +74,7 @@ pub record Core (s : List ℕ) (w : Forest) : Type 0 where
   pub bare : Forest
   pub takes : plain core s ≡ took (length s) bare
   pub places : w ≡ placed 0 bare
-  pub holds : Held 0 (length s) w
+  pub holds : Limits 0 (length s) w
   pub kinds : Kinded (clean w)
   pub long : Long w
 
@@ -134,7 +134,7 @@ core-of s h v = go (plain core s) refl (core-final s) (subst (λ (x : Full). Lik
     go missed e d k = absurd (hits (eval file 0 s) h (subst (Like 0 (eval file 0 s)) (file-is s ∙ ap (λ o. ruleE Rule.file (closed o)) e) k))
     go (took n F) e d k = (F, e ∙ ap (λ m. took m F) d)
 
-core-inside : (s : List ℕ) (F : Forest) → plain core s ≡ took (length s) F → Held 0 (length s) (placed 0 F)
+core-inside : (s : List ℕ) (F : Forest) → plain core s ≡ took (length s) F → Limits 0 (length s) (placed 0 F)
 core-inside s F e = wider 0 (0 + length s) 0 (length s) (placed 0 F) (omega arith) (omega arith) (inside core s (length s) F e 0)
 
 core-kinds : (s : List ℕ) (F : Forest) → plain core s ≡ took (length s) F → Kinded (clean (placed 0 F))

@@ -14,7 +14,7 @@ use Rattle.meaning.specs.Peg.{prefixb}
 use Rattle.meaning.specs.Forest.{Forest, nil, tree, _⊕_, clean}
 use Rattle.meaning.specs.Pdl.{rules as grammar}
 use Rattle.meaning.specs.Walk.{Part, absent, node, part, place, endianness}
-use Rattle.grammar.specs.Bounds.{Held}
+use Rattle.grammar.specs.Limits.{Limits}
 use Rattle.reading.specs.Sources.{whole}
 use Rattle.text.specs.ChoiceLaws.{never}
 use Rattle.locality.specs.Plain.{Out, missed, took, shift, seqE, plain, Took}
@@ -67,7 +67,7 @@ part-⊕ : (v w : Forest) → starting here (rules v) ≡ true → Same (part he
 part-⊕ nil w h = never h
 part-⊕ (tree q s l k more) w h = rw h (record { start = refl; len = refl })
 
-part-end : (e : ℕ) (w : Forest) → Held 0 e w → part here w .start + part here w .len ≤ e
+part-end : (e : ℕ) (w : Forest) → Limits 0 e w → part here w .start + part here w .len ≤ e
 part-end e nil h = omega arith
 part-end e (tree q s l k more) h = go (is here q)
   where
@@ -75,7 +75,7 @@ part-end e (tree q s l k more) h = go (is here q)
     go true = h .1 .0
     go false = omega arith
 
-grove-inside : {a e k : ℕ} {v w : Forest} → Grove a e k v w → Held a e w
+grove-inside : {a e k : ℕ} {v w : Forest} → Grove a e k v w → Limits a e w
 grove-inside bare = tt
 grove-inside (grown x y i j) = (x, (y, (grove-inside i, grove-inside j)))
 

@@ -9,13 +9,13 @@ use Rattle.meaning.specs.Utf8.{valid}
 use Rattle.meaning.specs.Forest.{Forest, nil, tree, _⊕_, clean}
 use Rattle.meaning.specs.Pdl.{rules}
 use Rattle.grammar.specs.Nodes.{nil-right}
-use Rattle.grammar.specs.Bounds.{Held}
+use Rattle.grammar.specs.Limits.{Limits}
 use Rattle.locality.specs.Plain.{took, shift, after, plain, size}
 use Rattle.locality.specs.Holding.{allowed}
 use Rattle.locality.specs.Least.{least}
 use Rattle.locality.specs.PlainLaws.{took-part}
 use Rattle.locality.specs.Likeness.{placed, placed-⊕, placed-shift}
-use Rattle.grammar.specs.Bounds.{wider}
+use Rattle.grammar.specs.Limits.{wider}
 use Rattle.locality.specs.Insides.{inside}
 use Rattle.locality.specs.ValidTexts.{valid-behind, valid-line}
 use Rattle.standing.specs.Sources.{body, core, file-append}
@@ -59,7 +59,7 @@ head-whole {p} {F} h =
 -- the nodes behind p
 pub record Follows (p b : List ℕ) (v old new : Forest) : Type 0 where
   pub is : v ≡ old ⊕ new
-  pub holds : Held (length p) (length (p ++ b)) new
+  pub holds : Limits (length p) (length (p ++ b)) new
   pub kinds : Kinded (clean new)
   pub long : Long new
 
@@ -86,8 +86,8 @@ stands p q b {k} {F} {w} {v} h n vq vb cq cb =
     let takes : plain core (q ++ 10 ∷ b) ≡ took (length (q ++ 10 ∷ b)) (cq .bare ⊕ shift (suc (length q)) g) =
     file-append q b (cq .bare) (cq .takes) ∙ ap (after (suc (length q)) (cq .bare)) (x .1 .0)
     ∙ ap (λ i. took i (cq .bare ⊕ shift (suc (length q)) g)) (omega (arith, length-append q (10 ∷ b), d)) in
-    let at-new : Held (length p) (length p + length b) (placed (length p) g)
-    = subst (λ i. Held (length p) (length p + i) (placed (length p) g)) d (inside body b (size (plain body b)) g (x .1 .0) (length p)) in
+    let at-new : Limits (length p) (length p + length b) (placed (length p) g)
+    = subst (λ i. Limits (length p) (length p + i) (placed (length p) g)) d (inside body b (size (plain body b)) g (x .1 .0) (length p)) in
     let m : 0 + suc (length q) ≡ length p + k = omega arith in
     let here : placed 0 (cq .bare ⊕ shift (suc (length q)) g) ≡ w ⊕ movedBy k (placed (length p) g) =
     placed-⊕ 0 (cq .bare) (shift (suc (length q)) g)

@@ -13,7 +13,7 @@ use Rattle.meaning.specs.Places.{placeAt}
 use Rattle.meaning.specs.Convert.{convert, reasonOf, valueOf}
 use Rattle.meaning.specs.Tables.{Item, int}
 use Rattle.meaning.specs.Walk.{Part, absent, node, part, orPart, following, each, place, name, unquoted, value, optional, number}
-use Rattle.grammar.specs.Bounds.{Held}
+use Rattle.grammar.specs.Limits.{Limits}
 use Rattle.meaning.specs.Moving.{Move, unless-none}
 use Rattle.standing.specs.Joinings.{movedBy}
 use Rattle.standing.specs.MovedItems.{moved-items, Carries, carries-none, carries-++}
@@ -32,7 +32,7 @@ pub data Grove (a e k : ℕ) : Forest → Forest → Type 0 where
   grown : {r : Rule} {s l : ℕ} {kids kids′ more more′ : Forest} → a ≤ s → s + l ≤ e → Grove a e k kids′ kids → Grove a e k more′ more
       → Grove a e k (tree r (s + k) l kids′ more′) (tree r s l kids more)
 
-pub grove : (a e k : ℕ) (w : Forest) → Held a e w → Grove a e k (movedBy k w) w
+pub grove : (a e k : ℕ) (w : Forest) → Limits a e w → Grove a e k (movedBy k w) w
 grove a e k nil h = bare
 grove a e k (tree r s l kids more) h = grown (h .0) (h .1 .0) (grove a e k kids (h .1 .1 .0)) (grove a e k more (h .1 .1 .1))
 

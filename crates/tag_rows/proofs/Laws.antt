@@ -9,7 +9,7 @@ use Rattle.meaning.specs.Peg.{taken}
 use Rattle.meaning.specs.Forest.{Forest}
 use Rattle.meaning.specs.Tables.{Table, number, row, Lent}
 use Rattle.meaning.specs.Walk.{following}
-use Rattle.grammar.specs.Bounds.{Held, held, held-left, held-right}
+use Rattle.grammar.specs.Limits.{Limits, draws-limits, limits-left, limits-right}
 use Rattle.grammar.specs.Order.{From, kidsOf}
 use Rattle.spans.specs.declared.Span.{Span}
 use Rattle.spans.specs.declared.TagValue.{TagValue}
@@ -27,8 +27,8 @@ use Rattle.walk.specs.declared.Walk.{Walk}
 use Rattle.walk.specs.Insides.{span-inside}
 use Rattle.walk.specs.Terms.{integerItems, noNumber, spanName, tagWords, spanNumber}
 use Rattle.walk.specs.Sounds.{number-sound, tag-sized}
-use Rattle.walk.specs.State.{slot, counted, lend, noted, At, Goes, same, Came, Knows, Put}
-use Rattle.walk.specs.Steps.{wrote-then, at-on, goes-none, goes-then, goes-in, goes-as, noted-goes}
+use Rattle.walk.specs.State.{slot, counted, lend, afterInteger, At, Goes, same, Came, Knows, Put}
+use Rattle.walk.specs.Steps.{wrote-then, at-on, goes-none, goes-then, goes-in, goes-as, integer-goes}
 use Rattle.walk.specs.Doors.{put-asks, put-goes, stood, spare}
 use Rattle.walk.specs.Lists.{GoesOne, found-drawn, found-hit, found-some, found-in, one-done}
 use Rattle.tag_rows.specs.Tags.{value-form, tag-form, rowWords, valueItems, otherItems, rangeItems, inside-value, inside-range, inside-other, tag-value, tag-range, tag-other, Placed, PlacedValue, PlacedRange, Ready}
@@ -64,17 +64,17 @@ module _ {src : List ℕ} {at len : ℕ} {id : Span} {n : Walk} (w : Placed src 
               ew ∙ rw (stood ca eb, stood cb ea, en)
 
   -- a number is noted before
-  pub noting : {x : Number} (y : Span) {m : Walk} → x ≡ spanNumber src at y → m ≡ noted (x .place) (x .reason) n → (a : Lent → Lent)
+  pub noting : {x : Number} (y : Span) {m : Walk} → x ≡ spanNumber src at y → m ≡ afterInteger (x .place) (x .reason) n → (a : Lent → Lent)
       → Goes (integerItems (spanNumber src at y)) src at n m a a
   noting {x} y {m} ex em a =
-      noted-goes (number-sound src _ _) a (em ∙ ap (λ (z : Number). noted (z .place) (z .reason) n) ex) (w .came)
+      integer-goes (number-sound src _ _) a (em ∙ ap (λ (z : Number). afterInteger (z .place) (z .reason) n) ex) (w .came)
 
   pub placed-at : {m : Walk} → At src at m → Placed src at len id m
   placed-at h = record { came = h; some = w .some; within = w .within; name = w .name }
 
 -- ---- a value
 module _ {src : List ℕ} {at len : ℕ} {v : TagValue} {n : Walk} (w : PlacedValue src at len v n) {x : Number} {m : Walk}
-    (ex : x ≡ spanNumber src at (v .value)) (em : m ≡ noted (x .place) (x .reason) n) where
+    (ex : x ≡ spanNumber src at (v .value)) (em : m ≡ afterInteger (x .place) (x .reason) n) where
   pub value-ready : Placed src at len (v .id) m
   value-ready = placed-at (w .place) (noting (w .place) (v .value) ex em same .at)
 
@@ -92,18 +92,18 @@ other-done src at len x ee g = goes-as (ap (λ (y : Number). row Table.tags (row
 
 -- ---- the spans of an answer of k bytes at `at`, by its tag
 module _ (src : List ℕ) (at k : ℕ) (n : Walk) (came : At src at n) (some : at < at + k) (within : at + k ≤ length src) where
-  value-placed : (v : TagValue) → Held at (at + k) (drawTag at (drop at src) k (Value v)) → PlacedValue src at k v n
+  value-placed : (v : TagValue) → Limits at (at + k) (drawTag at (drop at src) k (Value v)) → PlacedValue src at k v n
   value-placed v h =
       let name = leafAt Rule.identifier at (v .id) in
       let number = leafAt Rule.integer at (v .value) in
-      let id = span-inside Rule.identifier at k (v .id) (held-left at (at + k) name number (h .1 .1 .0)) in
-      let value = span-inside Rule.integer at k (v .value) (held-right at (at + k) name number (h .1 .1 .0)) in
+      let id = span-inside Rule.identifier at k (v .id) (limits-left at (at + k) name number (h .1 .1 .0)) in
+      let value = span-inside Rule.integer at k (v .value) (limits-right at (at + k) name number (h .1 .1 .0)) in
       record { place = record { came = came; some = omega (arith, some); within = within; name = id }; value = value }
 
-  other-placed : (x : TagOther) → Held at (at + k) (drawTag at (drop at src) k (Other x)) → Placed src at k (x .id) n
+  other-placed : (x : TagOther) → Limits at (at + k) (drawTag at (drop at src) k (Other x)) → Placed src at k (x .id) n
   other-placed x h = record { came = came; some = omega (arith, some); within = within; name = span-inside Rule.identifier at k (x .id) (h .1 .1 .0) }
 
-  range-placed : (x : TagRange) → SoundTag (drop at src) (Range x) → Held at (at + k) (drawTag at (drop at src) k (Range x))
+  range-placed : (x : TagRange) → SoundTag (drop at src) (Range x) → Limits at (at + k) (drawTag at (drop at src) k (Range x))
       → From (at + 1) (following (kidsOf (drawTag at (drop at src) k (Range x)))) → PlacedRange src at k x n
   range-placed x m h b =
       let id : at + x .id .start + x .id .len ≤ at + k = h .1 .1 .0 .1 .0 in
@@ -124,7 +124,8 @@ module _ {src : List ℕ} {at : ℕ} {c : TagMatch} {n : Walk} (w : Ready value-
   inner-ready {v} e =
       subst (λ (k : ℕ). PlacedValue src at k v n) (sym el)
       (value-placed src at (taken (c .at)) n (w .came) (found-some (w .found)) (found-in (w .found)) v
-      (subst (λ (y : Tag). Held at (at + taken (c .at)) (drawTag at (drop at src) (taken (c .at)) y)) e (held (found-drawn (w .found)) (w .found .hits) at)))
+      (subst (λ (y : Tag). Limits at (at + taken (c .at)) (drawTag at (drop at src) (taken (c .at)) y)) e
+      (draws-limits (found-drawn (w .found)) (w .found .hits) at)))
 
   pub inner-done : {v : TagValue} {r : Walk} {a b : Lent → Lent} → c .tag ≡ Value v → Goes (valueItems src 4 at len v) src (at + len) n r a b
       → GoesOne value-form src at c n r a b
@@ -141,33 +142,33 @@ module _ {src : List ℕ} {at : ℕ} {c : TagMatch} {n : Walk} (w : Ready value-
 
 -- ---- an answer of the enum's list
 module _ {src : List ℕ} {at : ℕ} {c : TagMatch} {n : Walk} (w : Ready tag-form src at c n) {len : ℕ} (el : len ≡ taken (c .at)) where
-  tag-held : Held at (at + taken (c .at)) (drawTag at (drop at src) (taken (c .at)) (c .tag))
-  tag-held = held (found-drawn (w .found)) (w .found .hits) at .1 .1 .0
+  tag-limits : Limits at (at + taken (c .at)) (drawTag at (drop at src) (taken (c .at)) (c .tag))
+  tag-limits = draws-limits (found-drawn (w .found)) (w .found .hits) at .1 .1 .0
 
   tag-from : From (at + 1) (following (kidsOf (drawTag at (drop at src) (taken (c .at)) (c .tag))))
   tag-from =
       subst (λ (v : Forest). From (at + 1) (following (kidsOf (kidsOf v)))) (found-drawn (w .found) .draws (w .found .hits) at)
       (tag-behind at (drop at src) (found-hit (w .found)))
 
-  abbrev HeldBy : Tag → Type 0
-  HeldBy y = Held at (at + taken (c .at)) (drawTag at (drop at src) (taken (c .at)) y)
+  abbrev TagLimits : Tag → Type 0
+  TagLimits y = Limits at (at + taken (c .at)) (drawTag at (drop at src) (taken (c .at)) y)
 
   pub tag-value-ready : {v : TagValue} → c .tag ≡ Value v → PlacedValue src at len v n
   tag-value-ready {v} e =
       subst (λ (k : ℕ). PlacedValue src at k v n) (sym el)
-      (value-placed src at (taken (c .at)) n (w .came) (found-some (w .found)) (found-in (w .found)) v (subst HeldBy e tag-held))
+      (value-placed src at (taken (c .at)) n (w .came) (found-some (w .found)) (found-in (w .found)) v (subst TagLimits e tag-limits))
 
   pub tag-range-ready : {x : TagRange} → c .tag ≡ Range x → PlacedRange src at len x n
   tag-range-ready {x} e =
       subst (λ (k : ℕ). PlacedRange src at k x n) (sym el)
       (range-placed src at (taken (c .at)) n (w .came) (found-some (w .found)) (found-in (w .found)) x
-      (subst (SoundTag (drop at src)) e (w .found .answered .sound (w .found .hits))) (subst HeldBy e tag-held)
+      (subst (SoundTag (drop at src)) e (w .found .answered .sound (w .found .hits))) (subst TagLimits e tag-limits)
       (subst (λ (y : Tag). From (at + 1) (following (kidsOf (drawTag at (drop at src) (taken (c .at)) y)))) e tag-from))
 
   pub tag-other-ready : {x : TagOther} → c .tag ≡ Other x → Placed src at len (x .id) n
   tag-other-ready {x} e =
       subst (λ (k : ℕ). Placed src at k (x .id) n) (sym el)
-      (other-placed src at (taken (c .at)) n (w .came) (found-some (w .found)) (found-in (w .found)) x (subst HeldBy e tag-held))
+      (other-placed src at (taken (c .at)) n (w .came) (found-some (w .found)) (found-in (w .found)) x (subst TagLimits e tag-limits))
 
   module _ {r : Walk} {a b : Lent → Lent} where
     pub tag-value-done : {v : TagValue} → c .tag ≡ Value v → Goes (valueItems src 1 at len v) src (at + len) n r a b → GoesOne tag-form src at c n r a b

@@ -16,7 +16,7 @@ use Rattle.spans.specs.Answers.{Matched, MatchedPart, Tagged}
 use Rattle.walk.specs.declared.Door.the-variants.{Count, Write}
 use Rattle.walk.specs.declared.Number.{Number}
 use Rattle.walk.specs.declared.Walk.{Walk}
-use Rattle.walk.specs.State.{lend, counted, noted, counting, placed, left, Wrote, Goes, same}
+use Rattle.walk.specs.State.{lend, counted, afterInteger, counting, placed, left, Wrote, Goes, same}
 use Rattle.walk.specs.Steps.{tally, tally-is, wrote-then, wrote-as, at-on, goes-then, goes-as, counting-at}
 use Rattle.walk.specs.Doors.{row-as, back-wrote, back-at}
 use Rattle.walk.specs.Lists.{Found, GoesAll, listNodes}
@@ -60,8 +60,8 @@ module _ {src : List ℕ} {at len : ℕ} {x : TagRange} {n : Walk} (w : PlacedRa
 
 -- ---- its numbers, its row, its values
 module _ {src : List ℕ} {at len : ℕ} {x : TagRange} {n : Walk} (w : PlacedRange src at len x n) {v e : Number} {k m : Walk}
-    (ev : v ≡ spanNumber src at (x .start)) (ee : e ≡ spanNumber src at (x .end)) (ek : k ≡ noted (v .place) (v .reason) n)
-    (em : m ≡ noted (e .place) (e .reason) k) where
+    (ev : v ≡ spanNumber src at (x .start)) (ee : e ≡ spanNumber src at (x .end)) (ek : k ≡ afterInteger (v .place) (v .reason) n)
+    (em : m ≡ afterInteger (e .place) (e .reason) k) where
   numbers : (a : Lent → Lent) → Goes (rangeNumbers src at x) src at n m a a
   numbers a =
       let g = noting (w .place) (x .start) ev ek a in goes-then g (noting (placed-at (w .place) (g .at)) (x .end) ee em a)

@@ -11,7 +11,7 @@ use Rattle.meaning.specs.Forest.{Forest, nodes}
 use Rattle.meaning.specs.Pdl.{identifier, alpha, enum-value, enum-value-list, enum-range, enum-other, enum-tag}
 use Rattle.meaning.specs.Walk.{part, following}
 use Rattle.grammar.specs.Nodes.{nodes-rule}
-use Rattle.grammar.specs.Bounds.{Held}
+use Rattle.grammar.specs.Limits.{Limits}
 use Rattle.grammar.specs.Order.{From, Led, led-rule, led-seq, kidsOf, Rooted, rooted-rule, rooted-alt}
 use Rattle.spans.specs.declared.Span.{Span}
 use Rattle.spans.specs.declared.Part.{Part}
@@ -59,14 +59,14 @@ module _ (src : List ℕ) (o : ℕ) where
   inner-items m = ap (λ (v : Forest). valuesItems src (part Rule.enum-value-list v .kids)) (list-node value-form value-rule src o m)
 
   -- its node starts behind the first byte and ends inside the bytes
-  pub braced : (list : Part) (n : ℕ) → MatchedPart enum-value-list (drop o src) list → Held o (o + n) (listAt enum-value-list o (drop o src) list)
+  pub braced : (list : Part) (n : ℕ) → MatchedPart enum-value-list (drop o src) list → Limits o (o + n) (listAt enum-value-list o (drop o src) list)
       → From (o + 1) (listAt enum-value-list o (drop o src) list) → Braced src o n list
   braced list n m h b = record { stands = m; inside = there }
     where
       there : (g : Span) → list ≡ Here g → (0 < g .start) × (stop value-form src (o + g .start) ≤ o + n)
       there g e =
           let m' = subst (λ (p : Part). MatchedPart enum-value-list (drop o src) p) e m in
-          let h' = subst (λ (p : Part). Held o (o + n) (listAt enum-value-list o (drop o src) p)) e h in
+          let h' = subst (λ (p : Part). Limits o (o + n) (listAt enum-value-list o (drop o src) p)) e h in
           let b' = subst (λ (f : Forest). From (o + 1) f) (ap (listAt enum-value-list o (drop o src)) e ∙ list-node value-form value-rule src o m') b in
           let x : o + 1 ≤ o + g .start = b' .0 in
           (omega (arith, x), list-ends value-form value-rule src o m' o (o + n) h')

@@ -8,7 +8,7 @@ use Rattle.meaning.specs.Choice.{pick}
 use Rattle.meaning.specs.Rules.{Rule}
 use Rattle.meaning.specs.Peg.{Peg, hit, taken}
 use Rattle.meaning.specs.Pdl.{_∣_, enum-value, enum-range, enum-other, enum-tag}
-use Rattle.grammar.specs.Drawing.{Draws, noted}
+use Rattle.grammar.specs.Drawing.{Draws, draws-rule}
 use Rattle.spans.specs.declared.Tag.{Tag}
 use Rattle.spans.specs.declared.TagMatch.{TagMatch}
 use Rattle.spans.specs.Drawn.{drawTag}
@@ -27,4 +27,4 @@ pub enumerated-is : {t : List ℕ} {at : Match} {r : TagMatch} (tag : Tag)
 unfolding enum-tag
 enumerated-is tag d s e =
     let k = tagged-is tag d s e in
-    record { drawn = noted Rule.enum-tag refl (k .drawn); sound = k .sound; missed = k .missed }
+    record { drawn = draws-rule Rule.enum-tag refl (k .drawn); sound = k .sound; missed = k .missed }

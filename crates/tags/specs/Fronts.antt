@@ -14,8 +14,8 @@ use Rattle.meaning.specs.Pdl.{text, _~_, _∣_, skip, identifier, integer, enum
 use Rattle.grammar.specs.Matching.{Steps, stay}
 use Rattle.grammar.specs.Hits.{no-hit, hit-after, hit-seq, hit-opt}
 use Rattle.grammar.specs.Fits.{lift-0}
-use Rattle.grammar.specs.Steps.{link, start, named}
-use Rattle.grammar.specs.Drawing.{Draws, Follows, whole, then, noted, first, second, retold}
+use Rattle.grammar.specs.Steps.{link, start, reads-rule}
+use Rattle.grammar.specs.Drawing.{Draws, Follows, whole, then, draws-rule, first, second, retold}
 use Rattle.lexis.specs.Skips.{hit-skip}
 use Rattle.spans.specs.declared.Span.{Span}
 use Rattle.spans.specs.declared.Part.{Part}
@@ -25,7 +25,7 @@ use Rattle.spans.specs.Spans.{spanOf}
 use Rattle.spans.specs.Drawn.{leafAt, listAt, drawTag}
 use Rattle.spans.specs.Parts.{gap, sign, mark, number}
 use Rattle.spans.specs.Answers.{Continues, MatchedPart}
-use Rattle.grammar.specs.Shared.{halted, back, afresh, second-noted}
+use Rattle.grammar.specs.Shared.{halted, back, afresh, second-rule}
 
 -- the name id and `=`; b ends behind the blanks
 pub record Front (t : List ℕ) (b : Match) (id : Span) : Type 0 where
@@ -55,7 +55,7 @@ module _ {t : List ℕ} {b : Match} {id : Span} (f : Front t b id) where
 
   pub other : {x : Match} → Steps b (text "..") t x → Draws enum-other t x (λ o. drawTag o t (taken x) (Other (record { id = id })))
   unfolding enum-other
-  other s = noted Rule.enum-other refl (whole (with (sign s)))
+  other s = draws-rule Rule.enum-other refl (whole (with (sign s)))
 
   module _ {low : Match} {v : Span} (s : Steps b integer t low) (starts : v ≡ spanOf b low) where
     valued : Follows (Took 0 0) (identifier ~ text "=" ~ integer) t low (λ o. leafAt Rule.identifier o id ⊕ leafAt Rule.integer o v)
@@ -63,7 +63,7 @@ module _ {t : List ℕ} {b : Match} {id : Span} (f : Front t b id) where
 
     pub value : Draws enum-value t low (λ o. drawTag o t (taken low) (Value (record { id = id; value = v })))
     unfolding enum-value
-    value = noted Rule.enum-value refl (whole valued)
+    value = draws-rule Rule.enum-value refl (whole valued)
 
     -- where no integer stands, only the name for all others is left
     pub no-value : {y r : Match} (g : ℕ) → low ≡ Missed g → y ≡ stay b low → Steps y (text "..") t r
@@ -71,9 +71,9 @@ module _ {t : List ℕ} {b : Match} {id : Span} (f : Front t b id) where
     unfolding enum-range enum-other
     no-value g e q k =
         let again : low ≡ join 0 g low = e ∙ ap Missed (omega (arith, lift-0 g)) ∙ ap (join 0 g) (sym e) in
-        let no-range = named Rule.enum-range (start (halted g (halted g (halted g (valued .steps) e) e) e)) in
+        let no-range = reads-rule Rule.enum-range (start (halted g (halted g (halted g (valued .steps) e) e) e)) in
         let z = afresh g (f .blanks-are .steps .fits) s e q (sign k) in
-        second-noted Rule.enum-other refl g (second g no-range e value again .reads) e (whole (with (z .follows))) (z .is)
+        second-rule Rule.enum-other refl g (second g no-range e value again .reads) e (whole (with (z .follows))) (z .is)
 
     -- ---- a second integer, which ends at high
     module _ {d c high : Match} {w : Span} (dots : Steps low (seq skip (text "..")) t d) (blanks : Steps d skip t c) (h : Steps c integer t high)
@@ -85,7 +85,7 @@ module _ {t : List ℕ} {b : Match} {id : Span} (f : Front t b id) where
       pub range : {m r : Match} {tags : Part} → Steps high skip t m → InBraces m t r tags
           → Draws enum-range t r (λ o. drawTag o t (taken r) (Range (record { id = id; start = v; end = w; tags = tags })))
       unfolding enum-range
-      range k l = noted Rule.enum-range refl (whole (then ranged (then (gap k) (l .drawn))))
+      range k l = draws-rule Rule.enum-range refl (whole (then ranged (then (gap k) (l .drawn))))
 
       -- where none stands, the first is a value
       pub no-range : {r : Match} (g n i : ℕ) → low ≡ Took n i → high ≡ Missed g → r ≡ stay low high
@@ -93,7 +93,7 @@ module _ {t : List ℕ} {b : Match} {id : Span} (f : Front t b id) where
       unfolding enum-range enum-value
       no-range g n i l e q =
           first n g
-          (second-noted Rule.enum-value refl g (named Rule.enum-range (start (halted g (ranged .steps) e))) e (whole valued)
+          (second-rule Rule.enum-value refl g (reads-rule Rule.enum-range (start (halted g (ranged .steps) e))) e (whole valued)
           (q ∙ back g (link dots (link blanks h)) e))
           (q ∙ ap₂ stay l e)
 

@@ -7,7 +7,7 @@ ghost use Rattle.grammar.specs.Matching.{Within, Reads, Steps};
 ghost use Rattle.spans.specs.Answers.{Tagged, Enumerated, noTag};
 ghost use Rattle.tags.specs.Fronts.{Front, InBraces};
 use grammar::joined;
-use grammar::settle;
+use grammar::optional;
 use lexis::blanks::next_literal;
 use lexis::blanks::then_blanks;
 use lexis::blanks::then_last_comma;
@@ -102,7 +102,7 @@ fn then_comma_values(s: &[u8], m: Match) -> Match
     loop {
         let next = then_comma_value(s, then_blanks(s, at));
         match next {
-            Match::Missed(_) => return settle(s, at, next),
+            Match::Missed(_) => return optional(s, at, next),
             Match::Took(_, _) => at = next,
         }
     }
@@ -114,7 +114,7 @@ pub fn then_enum_value_list(s: &[u8], m: Match) -> Match
     ensures { λ r. ⌜ Steps m enum-value-list (now (s .entry)) r ⌝ }
 {
     let b = then_blanks(s, then_enum_value(s, m));
-    let all = settle(s, b, then_comma_values(s, then_comma_value(s, b)));
+    let all = optional(s, b, then_comma_values(s, then_comma_value(s, b)));
     then_last_comma(s, all)
 }
 
@@ -141,7 +141,7 @@ fn then_braces(s: &[u8], m: Match) -> Braces
     let x = next_literal(s, list, b"}");
     let tags = kept_part(x, Part::Here(between(a, list)));
     Braces {
-        at: settle(s, m, x),
+        at: optional(s, m, x),
         tags,
     }
 }
@@ -191,14 +191,14 @@ pub fn enum_tag(s: &[u8]) -> TagMatch
     let id = label.id;
     let low = then_integer(s, b);
     if let Match::Missed(_) = low {
-        let at = then_literal(s, settle(s, b, low), b"..");
+        let at = then_literal(s, optional(s, b, low), b"..");
         return tagged(at, Tag::Other(TagOther { id }));
     }
     let value = between(b, low);
     let c = then_blanks(s, next_literal(s, low, b".."));
     let high = then_integer(s, c);
     if let Match::Missed(_) = high {
-        let at = settle(s, low, high);
+        let at = optional(s, low, high);
         return tagged(at, Tag::Value(TagValue { id, value }));
     }
     let end = between(c, high);
@@ -246,7 +246,7 @@ fn then_comma_tags(s: &[u8], m: Match) -> Match
     loop {
         let next = then_comma_tag(s, then_blanks(s, at));
         match next {
-            Match::Missed(_) => return settle(s, at, next),
+            Match::Missed(_) => return optional(s, at, next),
             Match::Took(_, _) => at = next,
         }
     }
@@ -258,7 +258,7 @@ pub fn then_enum_tag_list(s: &[u8], m: Match) -> Match
     ensures { λ r. ⌜ Steps m enum-tag-list (now (s .entry)) r ⌝ }
 {
     let b = then_blanks(s, then_enum_tag(s, m));
-    let all = settle(s, b, then_comma_tags(s, then_comma_tag(s, b)));
+    let all = optional(s, b, then_comma_tags(s, then_comma_tag(s, b)));
     then_last_comma(s, all)
 }
 

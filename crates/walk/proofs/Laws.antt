@@ -14,7 +14,7 @@ use Rattle.meaning.specs.declared.Match.{Match}
 use Rattle.meaning.specs.Peg.{hit, taken}
 use Rattle.grammar.specs.Matching.{Reads}
 use Rattle.grammar.specs.Steps.{at}
-use Rattle.grammar.specs.Bounds.{took-inside}
+use Rattle.grammar.specs.Limits.{took-inside}
 use Rattle.meaning.specs.declared.Converted.{Converted}
 use Rattle.meaning.specs.declared.Converted.the-variants.{Value, Empty, BadDigit, TooLarge}
 use Rattle.meaning.proofs.Converted.{the-type}
@@ -32,7 +32,7 @@ use Rattle.meaning.specs.Places.{placeAt}
 use Rattle.meaning.specs.Tables.{firstOf, put, puts}
 use Rattle.walk.specs.declared.Door.{Door}
 use Rattle.walk.specs.declared.Door.the-variants.{Count, Write}
-use Rattle.walk.specs.State.{noted, worse, left, Wrote, Near, Stands, At, same, Came, Knows, Put}
+use Rattle.walk.specs.State.{afterInteger, worse, left, Wrote, Near, Stands, At, same, Came, Knows, Put}
 use Rattle.walk.specs.Steps.{wrote-none, goes-none}
 use Rattle.walk.specs.Turns.{comma}
 use Rattle.walk.specs.Nexts.{Turned}
@@ -79,16 +79,16 @@ module _ (src : List ℕ) (i : ℕ) (m : Match) (w : i + taken m ≤ length src)
 
 -- ---- noting
 module _ (n : Walk) (p r : ℕ) where
-  pub note-late : (n .reason ≡ 0 → ⊥) → n ≡ noted p r n
+  pub note-late : (n .reason ≡ 0 → ⊥) → n ≡ afterInteger p r n
   unfolding worse
   note-late h = rw (ne-eqb (n .reason) 0 h)
 
-  pub note-good : n .reason ≡ 0 → r ≡ 0 → n ≡ noted p r n
+  pub note-good : n .reason ≡ 0 → r ≡ 0 → n ≡ afterInteger p r n
   unfolding worse
   note-good h k = rw (eq-eqb (n .reason) 0 h, eq-eqb r 0 k)
 
   pub note-bad : n .reason ≡ 0 → (r ≡ 0 → ⊥)
-      → _≡_ {A = Walk} (record { door = n .door; counts = n .counts; place = p; reason = r; here = n .here }) (noted p r n)
+      → _≡_ {A = Walk} (record { door = n .door; counts = n .counts; place = p; reason = r; here = n .here }) (afterInteger p r n)
   unfolding worse
   note-bad h k = rw (eq-eqb (n .reason) 0 h, ne-eqb r 0 k)
 

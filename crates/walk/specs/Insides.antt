@@ -2,7 +2,7 @@
 use Prim.Native.Nat.{ℕ, _+_, _≤_}
 use native.Mathlib.Omega.{arith}
 use Rattle.meaning.specs.Rules.{Rule}
-use Rattle.grammar.specs.Bounds.{Held, held-left, held-right}
+use Rattle.grammar.specs.Limits.{Limits, limits-left, limits-right}
 use Rattle.spans.specs.declared.Span.{Span}
 use Rattle.spans.specs.declared.Part.{Part}
 use Rattle.spans.specs.declared.Part.the-variants.{Absent, Here}
@@ -13,10 +13,10 @@ use Rattle.spans.specs.Drawn.{leafAt, drawPart, drawOperand, drawConstraint}
 use Rattle.walk.specs.Terms.{Inside, InsidePart, InsideOperand}
 
 -- a node, an operand, and a part that may be absent
-pub span-inside : (k : Rule) (o n : ℕ) (s : Span) → Held o (o + n) (leafAt k o s) → Inside n s
+pub span-inside : (k : Rule) (o n : ℕ) (s : Span) → Limits o (o + n) (leafAt k o s) → Inside n s
 span-inside k o n s h = let e : o + s .start + s .len ≤ o + n = h .1 .0 in omega arith
 
-pub operand-inside : (o n : ℕ) (v : Operand) → Held o (o + n) (drawOperand o v) → InsideOperand n v
+pub operand-inside : (o n : ℕ) (v : Operand) → Limits o (o + n) (drawOperand o v) → InsideOperand n v
 operand-inside o n (Identifier s) h = span-inside Rule.identifier o n s h
 operand-inside o n (Integer s) h = span-inside Rule.integer o n s h
 
@@ -24,7 +24,7 @@ wider-operand : (m n : ℕ) (v : Operand) → m ≤ n → InsideOperand m v → 
 wider-operand m n (Identifier s) e h = omega (arith, e, h)
 wider-operand m n (Integer s) e h = omega (arith, e, h)
 
-pub part-inside : (k : Rule) (o n : ℕ) (v : Part) → Held o (o + n) (drawPart k o v) → InsidePart n v
+pub part-inside : (k : Rule) (o n : ℕ) (v : Part) → Limits o (o + n) (drawPart k o v) → InsidePart n v
 part-inside k o n Absent h = tt
 part-inside k o n (Here s) h = span-inside k o n s h
 
@@ -38,11 +38,11 @@ pub record InsideConstraint (n : ℕ) (c : Constraint) : Type 0 where
   pub id : Inside n (c .id)
   pub value : InsideOperand n (c .value)
 
-pub constraint-inside : (o k n : ℕ) (c : Constraint) → k ≤ n → Held o (o + k) (drawConstraint o c) → InsideConstraint n c
+pub constraint-inside : (o k n : ℕ) (c : Constraint) → k ≤ n → Limits o (o + k) (drawConstraint o c) → InsideConstraint n c
 constraint-inside o k n c e h =
     let a : o + c .span .start + c .span .len ≤ o + k = h .1 .0 in
-    let b : Inside k (c .id) = span-inside Rule.identifier o k (c .id) (held-left o (o + k) (leafAt Rule.identifier o (c .id)) (drawOperand o (c .value))
+    let b : Inside k (c .id) = span-inside Rule.identifier o k (c .id) (limits-left o (o + k) (leafAt Rule.identifier o (c .id)) (drawOperand o (c .value))
     (h .1 .1 .0)) in
-    let v : InsideOperand k (c .value) = operand-inside o k (c .value) (held-right o (o + k) (leafAt Rule.identifier o (c .id)) (drawOperand o (c .value))
+    let v : InsideOperand k (c .value) = operand-inside o k (c .value) (limits-right o (o + k) (leafAt Rule.identifier o (c .id)) (drawOperand o (c .value))
     (h .1 .1 .0)) in
     record { span = omega (arith, a, e); id = omega (arith, b, e); value = wider-operand k n (c .value) e v }

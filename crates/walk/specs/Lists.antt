@@ -13,7 +13,7 @@ use Rattle.grammar.specs.Matching.{eats}
 use Rattle.grammar.specs.Stars.{hit-pos}
 use Rattle.grammar.specs.Steps.{rest-is}
 use Rattle.grammar.specs.Drawing.{Draws}
-use Rattle.grammar.specs.Bounds.{took-inside}
+use Rattle.grammar.specs.Limits.{took-inside}
 use Rattle.walk.specs.declared.Turn.{Turn}
 use Rattle.walk.specs.declared.Walk.{Walk}
 use Rattle.walk.specs.declared.Walked.{Walked}

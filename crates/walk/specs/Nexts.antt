@@ -14,7 +14,7 @@ use Rattle.grammar.specs.Matching.{Reads, eats}
 use Rattle.grammar.specs.Stars.{hit-pos}
 use Rattle.grammar.specs.Steps.{reads}
 use Rattle.grammar.specs.Drawing.{Draws}
-use Rattle.grammar.specs.Bounds.{run-inside}
+use Rattle.grammar.specs.Limits.{run-inside}
 use Rattle.walk.specs.declared.Turn.{Turn}
 use Rattle.walk.specs.Turns.{comma, rest, past, Over, next-item, next-past, no-comma, no-item}
 

@@ -12,7 +12,7 @@ use Rattle.meaning.specs.Forest.{Forest, nil, tree, nodes}
 use Rattle.grammar.specs.Fits.{within-run, within-taken}
 use Rattle.grammar.specs.Stars.{hit-pos}
 use Rattle.grammar.specs.Steps.{at}
-use Rattle.grammar.specs.Bounds.{Held}
+use Rattle.grammar.specs.Limits.{Limits}
 use Rattle.spans.specs.declared.Span.{Span}
 use Rattle.spans.specs.declared.Part.the-variants.{Here}
 use Rattle.spans.specs.Drawn.{listAt}
@@ -58,8 +58,8 @@ module _ {A : Type 0} (z : Form A) {k : Rule} {g : Peg} (l : ListRule k g (z .pe
   list-stop : stop z src begin ≤ begin + s .len
   list-stop = omega (arith, list-past (z .peg) src begin item-hit, l .room (drop begin src) item-hit, long)
 
-  pub list-ends : (lo hi : ℕ) → Held lo hi (listAt g o (drop o src) (Here s)) → stop z src begin ≤ hi
+  pub list-ends : (lo hi : ℕ) → Limits lo hi (listAt g o (drop o src) (Here s)) → stop z src begin ≤ hi
   list-ends lo hi h =
-      let d = subst (λ (v : Forest). Held lo hi v) list-node h in
+      let d = subst (λ (v : Forest). Limits lo hi v) list-node h in
       let e : begin + s .len ≤ hi = d .1 .0 in
       omega (arith, e, list-stop)

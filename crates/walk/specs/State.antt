@@ -40,8 +40,8 @@ bads (int p r ∷ xs) b = bads xs (worse p r b)
 bads (row t ws ∷ xs) b = bads xs b
 
 -- the state after an integer with this place and reason
-abbrev pub noted : ℕ → ℕ → Walk → Walk
-noted p r n =
+abbrev pub afterInteger : ℕ → ℕ → Walk → Walk
+afterInteger p r n =
     record { door = n .door; counts = n .counts; place = worse p r (badOf n) .place; reason = worse p r (badOf n) .reason; here = n .here }
 
 -- the same walk, which only counts

@@ -15,7 +15,7 @@ use Rattle.walk.specs.declared.Door.the-variants.{Count, Write}
 use Rattle.walk.specs.declared.Walk.{Walk}
 use Rattle.walk.specs.declared.Number.{Number}
 use Rattle.walk.specs.Terms.{integerItems}
-use Rattle.walk.specs.State.{counted, badOf, worse, bads, noted, counting, left, Wrote, Near, At, Goes, Tallied}
+use Rattle.walk.specs.State.{counted, badOf, worse, bads, afterInteger, counting, left, Wrote, Near, At, Goes, Tallied}
 
 -- ---- items one after another
 rows-append : (t : Table) (xs ys : List Item) → rowsOf t (xs ++ ys) ≡ rowsOf t xs ++ rowsOf t ys
@@ -136,7 +136,7 @@ module _ {x : Number} (ok : Sound x) where
           good true = refl
           good false = refl
 
-  note-wrote : (n : Walk) (a : Lent → Lent) → Wrote (integerItems x) n (noted (x .place) (x .reason) n) a a
+  note-wrote : (n : Walk) (a : Lent → Lent) → Wrote (integerItems x) n (afterInteger (x .place) (x .reason) n) a a
   note-wrote n a =
       record {
         door = refl;
@@ -149,8 +149,9 @@ module _ {x : Number} (ok : Sound x) where
       }
 
   -- it moves nothing: m is the state after it
-  pub noted-goes : {src : List ℕ} {k : ℕ} {n m : Walk} (a : Lent → Lent) → m ≡ noted (x .place) (x .reason) n → At src k n → Goes (integerItems x) src k n m a a
-  noted-goes {src} {k} {n} {m} a e h =
+  pub integer-goes : {src : List ℕ} {k : ℕ} {n m : Walk} (a : Lent → Lent) → m ≡ afterInteger (x .place) (x .reason) n
+      → At src k n → Goes (integerItems x) src k n m a a
+  integer-goes {src} {k} {n} {m} a e h =
       subst (λ (z : Walk). Goes (integerItems x) src k n z a a) (sym e)
       (record { wrote = note-wrote n a; at = record { within = h .within; sized = h .sized; few = h .few; near = h .near } })
 

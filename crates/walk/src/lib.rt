@@ -7,7 +7,7 @@ ghost use Rattle.walk.specs.Nexts.{Turned};
 ghost use Prim.Native.Nat.{_+_, _≤_, _<_};
 ghost use lib.ListN.{length, getD};
 ghost use mathlib.Core.List.{[], _∷_};
-ghost use Rattle.walk.specs.State.{fresh, noted, counting, left, Knows, Put, At, Came};
+ghost use Rattle.walk.specs.State.{fresh, afterInteger, counting, left, Knows, Put, At, Came};
 use lexis::blanks::then_blanks;
 use lexis::texts::then_literal;
 use meaning::Match;
@@ -121,7 +121,7 @@ pub struct Described {
 
 // The state after an integer: the first bad one stays.
 pub fn note(n: Walk, x: Number) -> Walk
-    ensures { λ r. ⌜ r ≡ noted (x .place) (x .reason) n ⌝ }
+    ensures { λ r. ⌜ r ≡ afterInteger (x .place) (x .reason) n ⌝ }
 {
     if n.reason != 0 {
         return n;

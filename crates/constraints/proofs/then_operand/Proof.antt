@@ -18,7 +18,7 @@ returns-2 c =
     let b = c .before .before .before in
     continue (Integer _)
     (retold
-    (other _ (b .before .before .before .then-identifier .ensures) (b .before .enum-told2 .given .1) (b .settle .ensures .is)
+    (other _ (b .before .before .before .then-identifier .ensures) (b .before .enum-told2 .given .1) (b .optional .ensures .is)
     (number (c .before .before .then-integer .ensures)))
     (λ h o. rw (c .before .between2 .ensures)))
     (λ h. tt) (c .kept-operand .ensures)

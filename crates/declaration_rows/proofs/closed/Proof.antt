@@ -3,7 +3,7 @@ use Rattle.meaning.specs.Pdl.{text, skip}
 use native.Mathlib.Omega.{arith}
 use denote.Ref.{now}
 use Rattle.grammar.specs.Steps.{taken-at}
-use Rattle.grammar.specs.Bounds.{run-inside}
+use Rattle.grammar.specs.Limits.{run-inside}
 use borrow.Author.Needs.{needs}
 use Rattle.declaration_rows.proofs.closed.Statement.{statement}
 use Rattle.declaration_rows.proofs.closed.Tie as tie

@@ -1,7 +1,7 @@
 use native.Mathlib.Omega.{arith}
 use denote.Ref.{now}
 use Rattle.grammar.specs.Steps.{taken-at}
-use Rattle.grammar.specs.Bounds.{run-inside}
+use Rattle.grammar.specs.Limits.{run-inside}
 use Rattle.walk.specs.Listing.{last}
 use borrow.Author.Needs.{needs}
 use Rattle.declaration_rows.proofs.list_end.Statement.{statement}

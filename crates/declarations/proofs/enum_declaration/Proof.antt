@@ -1,7 +1,7 @@
 use borrow.Author.Needs.{needs}
 use Rattle.meaning.specs.Rules.{Rule}
 use Rattle.meaning.specs.Pdl.{enum-declaration}
-use Rattle.grammar.specs.Steps.{chain, link, named}
+use Rattle.grammar.specs.Steps.{chain, link, reads-rule}
 use Rattle.declarations.specs.Headers.{enum-head}
 use Rattle.declarations.proofs.enum_declaration.Statement.{statement}
 use Rattle.declarations.proofs.enum_declaration.Tie as tie
@@ -10,7 +10,7 @@ returns : tie.Need-returns
 unfolding enum-declaration enum-head
 returns c =
     let a = c .before .before .before in
-    named Rule.enum-declaration
+    reads-rule Rule.enum-declaration
     (chain (chain (a .before .enum-head .ensures .drawn .reads) (link (a .then-blanks .ensures) (c .before .before .then-enum-tag-list .ensures)))
     (c .next-literal .ensures))
 

@@ -5,7 +5,7 @@ use Rattle.declarations.proofs.next_fields.Tie as tie
 
 returns : tie.Need-returns
 returns c = link (c .before .before .then-blanks .ensures) (option (c .before .before .then-blanks .ensures .fits) (c .before .then-field-list .ensures)
-    (c .settle .ensures .is))
+    (c .optional .ensures .is))
 
 pub next-fields-spec : {M : Type 1} → statement M
 next-fields-spec =

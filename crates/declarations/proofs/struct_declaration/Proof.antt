@@ -1,7 +1,7 @@
 use borrow.Author.Needs.{needs}
 use Rattle.meaning.specs.Rules.{Rule}
 use Rattle.meaning.specs.Pdl.{struct-declaration}
-use Rattle.grammar.specs.Steps.{chain, named}
+use Rattle.grammar.specs.Steps.{chain, reads-rule}
 use Rattle.declarations.specs.Headers.{struct-head}
 use Rattle.declarations.proofs.struct_declaration.Statement.{statement}
 use Rattle.declarations.proofs.struct_declaration.Tie as tie
@@ -10,7 +10,8 @@ returns : tie.Need-returns
 unfolding struct-declaration struct-head
 returns c =
     let a = c .before .before .before in
-    named Rule.struct-declaration (chain (chain (a .struct-head .ensures .drawn .reads) (c .before .before .next-fields .ensures)) (c .next-literal .ensures))
+    reads-rule Rule.struct-declaration
+    (chain (chain (a .struct-head .ensures .drawn .reads) (c .before .before .next-fields .ensures)) (c .next-literal .ensures))
 
 pub struct-declaration-spec : {M : Type 1} → statement M
 struct-declaration-spec =

@@ -1,6 +1,6 @@
 use borrow.Author.Needs.{needs}
 use Rattle.grammar.specs.Picks.{pick-false}
-use Rattle.grammar.specs.Drawing.{whole, opened, then, noted}
+use Rattle.grammar.specs.Drawing.{whole, opened, then, draws-rule}
 use Rattle.spans.specs.Parts.{gap, sign, optional}
 use Rattle.spans.specs.declared.Condition.the-variants.{Always, If}
 use Rattle.spans.specs.Drawn.{drawCondition}
@@ -9,7 +9,7 @@ use mathlib.Core.Path.{refl, _∙_}
 use Rattle.meaning.specs.Pdl.{field}
 use Rattle.grammar.specs.Shared.{halted}
 use Rattle.grammar.specs.Behind.{skipped}
-use Rattle.spans.specs.Kept.{missed-before}
+use Rattle.spans.specs.OptionalSteps.{missed-before}
 use Rattle.fields.proofs.field.Statement.{statement}
 use Rattle.fields.proofs.field.Tie as tie
 
@@ -22,11 +22,11 @@ returns c =
     let e = c .before .enum-told .given .1 in
     record {
       drawn =
-          noted Rule.field refl
+          draws-rule Rule.field refl
           (whole
           (then (opened (f .drawn))
           (then (gap (a .then-blanks .ensures))
-          (skipped _ (a .then-blanks .ensures .fits) (halted _ (b .then-literal .ensures) e) e (c .settle .ensures .is)))));
+          (skipped _ (a .then-blanks .ensures .fits) (halted _ (b .then-literal .ensures) e) e (c .optional .ensures .is)))));
       described = f;
       missed = λ h. refl;
     }
@@ -41,14 +41,14 @@ returns-2 c =
     let x = then (sign (w .then-literal .ensures)) (then (gap (b .before .then-blanks2 .ensures)) (b .then-constraint .ensures .drawn)) in
     record {
       drawn =
-          noted Rule.field refl
+          draws-rule Rule.field refl
           (whole
           (then (opened (f .drawn))
           (then (gap (a .then-blanks .ensures))
-          (optional (λ k o. drawCondition o k) Always (If _) (λ o. refl) (a .then-blanks .ensures .fits) x (c .before .settle2 .ensures .is)
+          (optional (λ k o. drawCondition o k) Always (If _) (λ o. refl) (a .then-blanks .ensures .fits) x (c .before .optional2 .ensures .is)
           (c .kept-condition .ensures)))));
       described = f;
-      missed = λ h. c .kept-condition .ensures ∙ pick-false _ _ _ (missed-before (x .steps) (c .before .settle2 .ensures .is) h);
+      missed = λ h. c .kept-condition .ensures ∙ pick-false _ _ _ (missed-before (x .steps) (c .before .optional2 .ensures .is) h);
     }
 
 pub field-spec : {M : Type 1} → statement M

@@ -11,7 +11,7 @@ returns c =
     let e = c .before .before .before in
     let l = e .before .before .before in
     enumerated-is (Other _)
-    (no-value (l .before .before .front .ensures) (l .then-integer .ensures) refl _ (e .before .enum-told .given .1) (e .settle .ensures .is)
+    (no-value (l .before .before .front .ensures) (l .then-integer .ensures) refl _ (e .before .enum-told .given .1) (e .optional .ensures .is)
     (c .before .then-literal .ensures))
     (λ h. tt) (c .tagged .ensures)
 
@@ -25,7 +25,7 @@ returns-2 c =
     enumerated-is (Value _)
     (no-range (l .before .before .front .ensures) (l .then-integer .ensures) (v .between .ensures) (d .next-literal .ensures)
     (h .before .then-blanks .ensures) (h .then-integer2 .ensures) refl _ _ _ (v .before .enum-told2 .given .1) (e .enum-told3 .given .1)
-    (c .before .settle2 .ensures .is))
+    (c .before .optional2 .ensures .is))
     (λ h. tt) (c .tagged2 .ensures)
 
 returns-3 : tie.Need-returns-3

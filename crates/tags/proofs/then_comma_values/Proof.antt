@@ -22,7 +22,7 @@ unfolding skip
 returns c =
     let a = c .before .before .before in
     rest-done _ refl (a .before .before .before .before .pre) (a .before .before .loop .inv)
-    (link (a .before .then-blanks .ensures) (a .then-comma-value .ensures)) (c .before .enum-told .given .1) (c .settle .ensures .is)
+    (link (a .before .then-blanks .ensures) (a .then-comma-value .ensures)) (c .before .enum-told .given .1) (c .optional .ensures .is)
 
 loop-less : tie.Need-loop-less Inv-loop μ-loop
 unfolding skip

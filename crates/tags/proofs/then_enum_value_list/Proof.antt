@@ -1,7 +1,7 @@
 use borrow.Author.Needs.{needs}
 use Rattle.meaning.specs.Rules.{Rule}
 use Rattle.meaning.specs.Pdl.{enum-value-list}
-use Rattle.lexis.specs.Listed.{listed}
+use Rattle.lexis.specs.CommaLists.{list-steps}
 use Rattle.tags.proofs.then_enum_value_list.Statement.{statement}
 use Rattle.tags.proofs.then_enum_value_list.Tie as tie
 
@@ -9,8 +9,8 @@ returns : tie.Need-returns
 unfolding enum-value-list
 returns c =
     let b = c .before .before .before .before in
-    listed Rule.enum-value-list (b .before .then-enum-value .ensures) (b .then-blanks .ensures) (c .before .before .before .then-comma-value .ensures)
-    (c .before .before .then-comma-values .ensures) (c .before .settle .ensures .is) (c .then-last-comma .ensures)
+    list-steps Rule.enum-value-list (b .before .then-enum-value .ensures) (b .then-blanks .ensures) (c .before .before .before .then-comma-value .ensures)
+    (c .before .before .then-comma-values .ensures) (c .before .optional .ensures .is) (c .then-last-comma .ensures)
 
 pub then-enum-value-list-spec : {M : Type 1} → statement M
 then-enum-value-list-spec =

@@ -1,7 +1,7 @@
 use borrow.Author.Needs.{needs}
 use Rattle.meaning.specs.Rules.{Rule}
 use Rattle.meaning.specs.Pdl.{file, file-start, file-line, file-head}
-use Rattle.grammar.specs.Steps.{chain, link, named}
+use Rattle.grammar.specs.Steps.{chain, link, reads-rule}
 use Rattle.declarations.specs.Files.{begun, place-is}
 use Rattle.declarations.proofs.files.file.Statement.{statement}
 use Rattle.declarations.proofs.files.file.Tie as tie
@@ -14,7 +14,7 @@ returns c =
     let line = chain begun (link (b .then-blanks .ensures) (a .before .before .then-endianness-declaration .ensures)) in
     let all = chain line (link (a .before .then-blanks2 .ensures) (a .then-declarations .ensures)) in
     record {
-      reads = named Rule.file (chain all (link (c .before .before .then-blanks3 .ensures) (c .before .then-end .ensures)));
+      reads = reads-rule Rule.file (chain all (link (c .before .before .then-blanks3 .ensures) (c .before .then-end .ensures)));
       place = place-is (chain begun (b .then-blanks .ensures)) line (chain all (c .before .before .then-blanks3 .ensures)) (c .place-of .ensures);
     }
 

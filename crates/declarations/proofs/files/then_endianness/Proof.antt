@@ -10,7 +10,7 @@ returns c = one _ _ (sign (c .before .before .then-literal .ensures)) (c .enum-t
 returns-2 : tie.Need-returns-2
 returns-2 c =
     let a = c .before .before .before in
-    other _ (a .before .before .then-literal .ensures) (a .enum-told2 .given .1) (c .before .before .settle .ensures .is)
+    other _ (a .before .before .then-literal .ensures) (a .enum-told2 .given .1) (c .before .before .optional .ensures .is)
     (sign (c .then-literal2 .ensures)) .steps
 
 pub then-endianness-spec : {M : Type 1} → statement M

@@ -21,7 +21,7 @@ returns : tie.Need-returns Inv-loop μ-loop
 returns c =
     let a = c .before .before .before in
     rest-done _ declaration-eats (a .before .before .before .before .pre) (a .before .before .loop .inv)
-    (link (a .before .then-blanks .ensures) (a .then-declaration .ensures)) (c .before .enum-told .given .1) (c .settle .ensures .is)
+    (link (a .before .then-blanks .ensures) (a .then-declaration .ensures)) (c .before .enum-told .given .1) (c .optional .ensures .is)
 
 loop-less : tie.Need-loop-less Inv-loop μ-loop
 loop-less c =

@@ -1,7 +1,7 @@
 use borrow.Author.Needs.{needs}
 use Rattle.meaning.specs.Rules.{Rule}
 use Rattle.meaning.specs.Pdl.{CHECKSUM}
-use Rattle.grammar.specs.Steps.{named}
+use Rattle.grammar.specs.Steps.{reads-rule}
 use Rattle.grammar.specs.Drawing.{whole, then, retold}
 use Rattle.lexis.specs.Leaves.{CHECKSUM-leaf}
 use Rattle.spans.specs.Parts.{gap, mark, name, number, quoted}
@@ -23,7 +23,7 @@ returns c =
     (then
     (then
     (then
-    (then (word CHECKSUM-leaf (named Rule.CHECKSUM (d .before .before .keyword .ensures)))
+    (then (word CHECKSUM-leaf (reads-rule Rule.CHECKSUM (d .before .before .keyword .ensures)))
     (then (gap (d .before .then-blanks .ensures)) (name (d .then-identifier .ensures))))
     (mark (a .before .before .next-literal .ensures)))
     (then (gap (a .before .then-blanks2 .ensures)) (number (a .then-integer .ensures))))

@@ -1,7 +1,7 @@
 use borrow.Author.Needs.{needs}
 use Rattle.meaning.specs.Rules.{Rule}
 use Rattle.meaning.specs.Pdl.{ENUM}
-use Rattle.grammar.specs.Steps.{named}
+use Rattle.grammar.specs.Steps.{reads-rule}
 use Rattle.grammar.specs.Drawing.{whole, then, retold}
 use Rattle.lexis.specs.Leaves.{ENUM-leaf}
 use Rattle.spans.specs.Parts.{gap, mark, name, number}
@@ -23,7 +23,7 @@ returns c =
     (then
     (then
     (then
-    (then (word ENUM-leaf (named Rule.ENUM (d .before .before .keyword .ensures)))
+    (then (word ENUM-leaf (reads-rule Rule.ENUM (d .before .before .keyword .ensures)))
     (then (gap (d .before .then-blanks .ensures)) (name (d .then-identifier .ensures))))
     (mark (a .before .next-literal .ensures)))
     (then (gap (a .then-blanks2 .ensures)) (number (b .before .before .then-integer .ensures))))

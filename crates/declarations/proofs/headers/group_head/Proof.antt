@@ -1,7 +1,7 @@
 use borrow.Author.Needs.{needs}
 use Rattle.meaning.specs.Rules.{Rule}
 use Rattle.meaning.specs.Pdl.{GROUP}
-use Rattle.grammar.specs.Steps.{named}
+use Rattle.grammar.specs.Steps.{reads-rule}
 use Rattle.grammar.specs.Drawing.{whole, then, retold}
 use Rattle.lexis.specs.Leaves.{GROUP-leaf}
 use Rattle.spans.specs.Parts.{gap, mark, name}
@@ -19,7 +19,7 @@ returns c =
     (whole
     (retold
     (then
-    (then (word GROUP-leaf (named Rule.GROUP (b .before .before .keyword .ensures)))
+    (then (word GROUP-leaf (reads-rule Rule.GROUP (b .before .before .keyword .ensures)))
     (then (gap (b .before .then-blanks .ensures)) (name (b .then-identifier .ensures))))
     (mark (k .before .before .next-literal .ensures)))
     (λ h o. rw (k .before .between .ensures, (k .between2 .ensures)))))

@@ -3,7 +3,7 @@ use Rattle.grammar.specs.Nodes.{nil-right}
 use Rattle.grammar.specs.Drawing.{whole, then, retold}
 use Rattle.meaning.specs.Rules.{Rule}
 use Rattle.spans.specs.Parts.{gap, sign, mark, name}
-use Rattle.spans.specs.Kept.{kept-token, kept-list, before-hit}
+use Rattle.spans.specs.OptionalSteps.{optional-token, optional-list, before-hit}
 use Rattle.declarations.specs.HeadParts.{headed}
 use Rattle.declarations.proofs.headers.parent_head.Statement.{statement}
 use Rattle.declarations.proofs.headers.parent_head.Tie as tie
@@ -19,8 +19,8 @@ returns c =
     let g = f .before .before .before in
     let i = g .before .before .before in
     let list =
-    kept-list (f .then-blanks4 .ensures .fits) (sign (e .before .then-literal2 .ensures)) (gap (e .then-blanks5 .ensures))
-    (d .before .before .then-constraint-list .ensures) (mark (d .next-literal .ensures)) (a .before .before .settle2 .ensures .is)
+    optional-list (f .then-blanks4 .ensures .fits) (sign (e .before .then-literal2 .ensures)) (gap (e .then-blanks5 .ensures))
+    (d .before .before .then-constraint-list .ensures) (mark (d .next-literal .ensures)) (a .before .before .optional2 .ensures .is)
     (k .kept-part2 .ensures) (k .before .between4 .ensures) in
     record {
       heads = λ w z q.
@@ -31,9 +31,9 @@ returns c =
           (then
           (then (then q (then (gap (i .before .before .then-blanks .ensures)) (name (i .before .then-identifier .ensures))))
           (then (gap (i .then-blanks2 .ensures))
-          (kept-token Rule.identifier (i .then-blanks2 .ensures .fits)
+          (optional-token Rule.identifier (i .then-blanks2 .ensures .fits)
           (then (sign (g .before .then-literal .ensures)) (then (gap (g .then-blanks3 .ensures)) (name (f .before .before .then-identifier2 .ensures))))
-          (f .before .settle .ensures .is) (k .before .before .kept-part .ensures) (b .between3 .ensures))))
+          (f .before .optional .ensures .is) (k .before .before .kept-part .ensures) (b .between3 .ensures))))
           (then (gap (f .then-blanks4 .ensures)) (list .drawn)))
           (mark (a .next-literal2 .ensures)))
           (λ h o. rw (b .before .before .between .ensures, (b .before .between2 .ensures), nil-right))))

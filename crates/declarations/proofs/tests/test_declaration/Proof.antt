@@ -1,7 +1,7 @@
 use borrow.Author.Needs.{needs}
 use Rattle.meaning.specs.Rules.{Rule}
 use Rattle.meaning.specs.Pdl.{TEST, test-declaration}
-use Rattle.grammar.specs.Steps.{chain, link, named}
+use Rattle.grammar.specs.Steps.{chain, link, reads-rule}
 use Rattle.declarations.proofs.tests.test_declaration.Statement.{statement}
 use Rattle.declarations.proofs.tests.test_declaration.Tie as tie
 
@@ -10,9 +10,9 @@ unfolding test-declaration TEST
 returns c =
     let a = c .before .before .before in
     let b = a .before .before .before in
-    named Rule.test-declaration
+    reads-rule Rule.test-declaration
     (chain
-    (chain (chain (chain (named Rule.TEST (b .before .keyword .ensures)) (b .next-identifier .ensures)) (a .before .next-literal .ensures))
+    (chain (chain (chain (reads-rule Rule.TEST (b .before .keyword .ensures)) (b .next-identifier .ensures)) (a .before .next-literal .ensures))
     (link (a .then-blanks .ensures) (c .before .before .then-test-case-list .ensures)))
     (c .next-literal2 .ensures))
 

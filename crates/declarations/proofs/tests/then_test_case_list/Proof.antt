@@ -12,7 +12,7 @@ returns c =
     (link (a .before .before .then-test-case .ensures)
     (link (a .before .then-blanks .ensures)
     (option (a .before .then-blanks .ensures .fits) (link (a .then-comma .ensures) (c .before .before .then-commas .ensures))
-    (c .before .settle .ensures .is))))
+    (c .before .optional .ensures .is))))
     (c .then-last-comma .ensures)
 
 pub then-test-case-list-spec : {M : Type 1} → statement M

@@ -1,5 +1,5 @@
 use borrow.Author.Needs.{needs}
-use Rattle.fields.specs.Kinds.{told}
+use Rattle.fields.specs.Kinds.{describes}
 use Rattle.fields.specs.Named.{arrayed, front, with}
 use Rattle.fields.proofs.kinds.array_field.Statement.{statement}
 use Rattle.fields.proofs.kinds.array_field.Tie as tie
@@ -8,7 +8,7 @@ returns : tie.Need-returns
 returns c =
     let e = c .before .before .before in
     let b = e .before .before in
-    told (c .described .ensures)
+    describes (c .described .ensures)
     (arrayed
     (with (front (b .before .then-identifier .ensures) (c .before .between .ensures) (b .next-byte .ensures) (e .before .then-blanks .ensures))
     (e .then-element .ensures .drawn))

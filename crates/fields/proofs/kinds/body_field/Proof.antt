@@ -1,5 +1,5 @@
 use borrow.Author.Needs.{needs}
-use Rattle.grammar.specs.Drawing.{whole, noted, from-start}
+use Rattle.grammar.specs.Drawing.{whole, draws-rule, from-start}
 use Rattle.spans.specs.Parts.{sign}
 use Rattle.meaning.specs.Rules.{Rule}
 use mathlib.Core.Path.{refl}
@@ -12,7 +12,7 @@ returns : tie.Need-returns
 unfolding body-field
 returns c =
     record {
-      drawn = noted Rule.body-field refl (whole (sign (from-start (c .literal .ensures))));
+      drawn = draws-rule Rule.body-field refl (whole (sign (from-start (c .literal .ensures))));
       sound = λ h. tt;
       missed = λ h. refl;
     }

@@ -1,11 +1,11 @@
 use borrow.Author.Needs.{needs}
-use Rattle.grammar.specs.Drawing.{then, whole, one, other, noted, from-start}
+use Rattle.grammar.specs.Drawing.{then, whole, one, other, draws-rule, from-start}
 use Rattle.spans.specs.Parts.{gap, sign, mark}
 use Rattle.spans.specs.Answers.{answered}
 use Rattle.meaning.specs.Rules.{Rule}
 use mathlib.Core.Path.{refl}
 use Rattle.meaning.specs.Pdl.{fixed-field}
-use Rattle.fields.specs.Kinds.{told}
+use Rattle.fields.specs.Kinds.{describes}
 use Rattle.fields.proofs.kinds.fixed_field.Statement.{statement}
 use Rattle.fields.proofs.kinds.fixed_field.Tie as tie
 
@@ -16,7 +16,7 @@ returns c =
     let b = x .before in
     let e = c .before .before .enum-told .given .1 in
     answered e
-    (noted Rule.fixed-field refl
+    (draws-rule Rule.fixed-field refl
     (whole
     (then (then (sign (from-start (b .before .before .literal .ensures))) (mark (b .before .next-byte .ensures)))
     (then (gap (b .then-blanks .ensures)) (one _ _ (x .then-numbers .ensures .drawn) e)))))
@@ -28,12 +28,12 @@ returns-2 c =
     let y = c .before .before .before in
     let x = y .before .before .before .before in
     let b = x .before in
-    told (c .described .ensures)
-    (noted Rule.fixed-field refl
+    describes (c .described .ensures)
+    (draws-rule Rule.fixed-field refl
     (whole
     (then (then (sign (from-start (b .before .before .literal .ensures))) (mark (b .before .next-byte .ensures)))
     (then (gap (b .then-blanks .ensures))
-    (other _ (x .then-numbers .ensures .drawn .steps) (y .before .before .enum-told2 .given .1) (y .before .settle .ensures .is)
+    (other _ (x .then-numbers .ensures .drawn .steps) (y .before .before .enum-told2 .given .1) (y .before .optional .ensures .is)
     (y .then-names .ensures .drawn))))))
     (λ h. tt)
 

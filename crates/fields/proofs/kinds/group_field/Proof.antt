@@ -2,9 +2,9 @@ use borrow.Author.Needs.{needs}
 use mathlib.Core.Path.{refl}
 use Rattle.meaning.specs.Rules.{Rule}
 use Rattle.meaning.specs.Pdl.{group-field}
-use Rattle.grammar.specs.Drawing.{then, whole, noted, redrawn}
+use Rattle.grammar.specs.Drawing.{then, whole, draws-rule, redrawn}
 use Rattle.spans.specs.Parts.{name}
-use Rattle.fields.specs.Kinds.{told}
+use Rattle.fields.specs.Kinds.{describes}
 use Rattle.fields.proofs.kinds.group_field.Statement.{statement}
 use Rattle.fields.proofs.kinds.group_field.Tie as tie
 
@@ -12,8 +12,8 @@ returns : tie.Need-returns
 unfolding group-field
 returns c =
     let b = c .before .before in
-    told (c .described .ensures)
-    (noted Rule.group-field refl
+    describes (c .described .ensures)
+    (draws-rule Rule.group-field refl
     (redrawn (whole (then (name (b .before .then-identifier .ensures)) (b .then-braces .ensures .drawn))) (λ h o. rw (c .before .between .ensures))))
     (b .then-braces .ensures .sound)
 

@@ -1,10 +1,10 @@
 use borrow.Author.Needs.{needs}
-use Rattle.grammar.specs.Drawing.{then, whole, noted, from-start}
+use Rattle.grammar.specs.Drawing.{then, whole, draws-rule, from-start}
 use Rattle.spans.specs.Parts.{sign, mark}
 use Rattle.meaning.specs.Rules.{Rule}
 use mathlib.Core.Path.{refl}
 use Rattle.meaning.specs.Pdl.{padding-field}
-use Rattle.fields.specs.Kinds.{told}
+use Rattle.fields.specs.Kinds.{describes}
 use Rattle.fields.proofs.kinds.padding_field.Statement.{statement}
 use Rattle.fields.proofs.kinds.padding_field.Tie as tie
 
@@ -12,8 +12,8 @@ returns : tie.Need-returns
 unfolding padding-field
 returns c =
     let n = c .before .before .before in
-    told (c .described .ensures)
-    (noted Rule.padding-field refl
+    describes (c .described .ensures)
+    (draws-rule Rule.padding-field refl
     (whole
     (then
     (then (then (sign (from-start (n .before .before .literal .ensures))) (mark (n .before .next-byte .ensures))) (n .next-number .ensures .drawn))

@@ -1,5 +1,5 @@
 use borrow.Author.Needs.{needs}
-use Rattle.grammar.specs.Drawing.{then, whole, noted, from-start}
+use Rattle.grammar.specs.Drawing.{then, whole, draws-rule, from-start}
 use Rattle.spans.specs.Parts.{gap, sign, mark, modifier, optional}
 use Rattle.meaning.specs.Rules.{Rule}
 use Rattle.spans.specs.declared.Span.{Span}
@@ -9,7 +9,7 @@ use Rattle.meaning.specs.Choice.{pick}
 use mathlib.Core.Path.{refl, ap, _∙_}
 use Rattle.meaning.specs.Peg.{hit}
 use Rattle.meaning.specs.Pdl.{payload-field}
-use Rattle.fields.specs.Kinds.{told}
+use Rattle.fields.specs.Kinds.{describes}
 use Rattle.fields.proofs.kinds.payload_field.Statement.{statement}
 use Rattle.fields.proofs.kinds.payload_field.Tie as tie
 
@@ -20,8 +20,8 @@ returns c =
     let b = k .before .before .before in
     let a = b .before .before .before in
     let d = a .before .before .before in
-    told (c .described .ensures)
-    (noted Rule.payload-field refl
+    describes (c .described .ensures)
+    (draws-rule Rule.payload-field refl
     (whole
     (then (sign (from-start (d .before .literal .ensures)))
     (then (gap (d .then-blanks .ensures))
@@ -30,7 +30,7 @@ returns c =
     (then (then (sign (a .before .then-literal .ensures)) (mark (a .next-byte .ensures)))
     (then (gap (b .before .before .then-blanks2 .ensures)) (modifier (b .before .then-size-modifier .ensures))))
     (mark (b .next-byte2 .ensures)))
-    (k .before .before .settle .ensures .is)
+    (k .before .before .optional .ensures .is)
     ((k .kept-part .ensures) ∙ ap (λ (i : Span). pick (hit (b .next-byte2 .result)) (Here i) Absent) (k .before .between .ensures)))))))
     (λ h. tt)
 

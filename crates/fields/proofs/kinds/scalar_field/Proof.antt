@@ -1,10 +1,10 @@
 use borrow.Author.Needs.{needs}
-use Rattle.grammar.specs.Drawing.{then, whole, noted, redrawn}
+use Rattle.grammar.specs.Drawing.{then, whole, draws-rule, redrawn}
 use Rattle.spans.specs.Parts.{mark, name}
 use Rattle.meaning.specs.Rules.{Rule}
 use mathlib.Core.Path.{refl}
 use Rattle.meaning.specs.Pdl.{scalar-field}
-use Rattle.fields.specs.Kinds.{told}
+use Rattle.fields.specs.Kinds.{describes}
 use Rattle.fields.proofs.kinds.scalar_field.Statement.{statement}
 use Rattle.fields.proofs.kinds.scalar_field.Tie as tie
 
@@ -12,8 +12,8 @@ returns : tie.Need-returns
 unfolding scalar-field
 returns c =
     let n = c .before .before .before in
-    told (c .described .ensures)
-    (noted Rule.scalar-field refl
+    describes (c .described .ensures)
+    (draws-rule Rule.scalar-field refl
     (redrawn
     (whole (then (then (name (n .before .before .then-identifier .ensures)) (mark (n .before .next-byte .ensures))) (n .next-number .ensures .drawn)))
     (λ h o. rw (c .before .between .ensures))))

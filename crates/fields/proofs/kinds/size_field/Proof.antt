@@ -1,11 +1,11 @@
 use borrow.Author.Needs.{needs}
-use Rattle.grammar.specs.Drawing.{then, whole, noted, redrawn, from-start}
+use Rattle.grammar.specs.Drawing.{then, whole, draws-rule, redrawn, from-start}
 use Rattle.spans.specs.Parts.{gap, sign, mark}
 use Rattle.grammar.specs.Nodes.{nil-right}
 use Rattle.meaning.specs.Rules.{Rule}
 use mathlib.Core.Path.{refl}
 use Rattle.meaning.specs.Pdl.{size-field}
-use Rattle.fields.specs.Kinds.{told}
+use Rattle.fields.specs.Kinds.{describes}
 use Rattle.fields.proofs.kinds.size_field.Statement.{statement}
 use Rattle.fields.proofs.kinds.size_field.Tie as tie
 
@@ -15,8 +15,8 @@ returns c =
     let w = c .before .before .before in
     let n = w .before .before in
     let b = n .before in
-    told (c .described .ensures)
-    (noted Rule.size-field refl
+    describes (c .described .ensures)
+    (draws-rule Rule.size-field refl
     (redrawn
     (whole
     (then

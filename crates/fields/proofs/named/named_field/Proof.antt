@@ -5,7 +5,7 @@ use Rattle.grammar.specs.Drawing.{one, other, retold}
 use Rattle.spans.specs.Drawn.{leafAt}
 use Rattle.spans.specs.Parts.{number, name}
 use Rattle.spans.specs.Answers.{answered}
-use Rattle.fields.specs.Kinds.{told, chosen}
+use Rattle.fields.specs.Kinds.{describes, chosen}
 use Rattle.fields.specs.Named.{named-fields, front, with, scalar, typedef, group}
 use Rattle.fields.proofs.named.named_field.Statement.{statement}
 use Rattle.fields.proofs.named.named_field.Tie as tie
@@ -28,7 +28,7 @@ returns-2 c =
     let a = b .before .before .before in
     let e = d .before .before .enum-told2 .given .1 in
     let k = c .before .before .enum-told3 .given .1 in
-    let q = d .before .settle .ensures .is in
+    let q = d .before .optional .ensures .is in
     let f = front (a .before .then-identifier .ensures) (a .between .ensures) (b .before .before .next-byte .ensures) (b .before .then-blanks .ensures) in
     let type = retold (name (d .then-identifier2 .ensures)) (λ h o. ap (leafAt Rule.identifier o) (sym (c .before .between3 .ensures))) in
     c .or-array2 .ensures .or _ _ k (with f (other _ (b .then-integer .ensures) e q type))
@@ -42,9 +42,9 @@ returns-3 c =
     let a = b .before .before .before in
     let e = d .before .before .enum-told2 .given .1 in
     let f = front (a .before .then-identifier .ensures) (a .between .ensures) (b .before .before .next-byte .ensures) (b .before .then-blanks .ensures) in
-    told (c .described .ensures)
-    (group f _ (b .then-integer .ensures) e (d .before .settle .ensures .is) (name (d .then-identifier2 .ensures)) _
-    (g .before .before .enum-told4 .given .1) (g .before .settle2 .ensures .is) (g .then-braces .ensures .drawn))
+    describes (c .described .ensures)
+    (group f _ (b .then-integer .ensures) e (d .before .optional .ensures .is) (name (d .then-identifier2 .ensures)) _
+    (g .before .before .enum-told4 .given .1) (g .before .optional2 .ensures .is) (g .then-braces .ensures .drawn))
     (g .then-braces .ensures .sound)
 
 pub named-field-spec : {M : Type 1} → statement M

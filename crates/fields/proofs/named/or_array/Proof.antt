@@ -9,8 +9,8 @@ use Rattle.fields.specs.Named.{arrayed}
 use Rattle.fields.proofs.named.or_array.Statement.{statement}
 use Rattle.fields.proofs.named.or_array.Tie as tie
 
-settle-requires : tie.Need-settle-requires
-settle-requires c κs = (c .before .before .before .before .pre, c .before .before .then-brackets .ensures .answers .drawn .steps .fits)
+optional-requires : tie.Need-optional-requires
+optional-requires c κs = (c .before .before .before .before .pre, c .before .before .then-brackets .ensures .answers .drawn .steps .fits)
 
 returns : tie.Need-returns
 returns c =
@@ -21,7 +21,7 @@ returns-2 : tie.Need-returns-2
 returns-2 c =
     let b = c .before .before .before .then-brackets .ensures in
     let e = c .before .enum-told2 .given .1 in
-    let at = c .settle .ensures .is in
+    let at = c .optional .ensures .is in
     record {
       or = λ n f h p d.
           chosen _ _ (tried _ (arrayed p b .reads) e d (record { later = at ∙ back _ (b .answers .drawn .steps) e; same = refl })) (at ∙ ap₂ stay h e);
@@ -29,4 +29,4 @@ returns-2 c =
 
 pub or-array-spec : {M : Type 1} → statement M
 or-array-spec =
-    tie.close (tie.spec (λ c κs. search needs) (λ c. search needs) returns (λ c. search needs) settle-requires returns-2)
+    tie.close (tie.spec (λ c κs. search needs) (λ c. search needs) returns (λ c. search needs) optional-requires returns-2)

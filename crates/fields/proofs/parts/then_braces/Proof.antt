@@ -15,7 +15,7 @@ use Rattle.spans.specs.Answers.{matched}
 use Rattle.grammar.specs.Shared.{halted}
 use Rattle.grammar.specs.Behind.{skipped}
 use Rattle.fields.specs.Tokens.{matched-inner}
-use Rattle.spans.specs.Kept.{missed-before}
+use Rattle.spans.specs.OptionalSteps.{missed-before}
 use Rattle.fields.proofs.parts.then_braces.Statement.{statement}
 use Rattle.fields.proofs.parts.then_braces.Tie as tie
 
@@ -25,7 +25,7 @@ returns c =
     let blanks = b .before .before .then-blanks .ensures in
     let e = c .before .enum-told .given .1 in
     record {
-      drawn = then (gap blanks) (skipped _ (blanks .fits) (halted _ (halted _ (b .then-literal .ensures) e) e) e (c .settle .ensures .is));
+      drawn = then (gap blanks) (skipped _ (blanks .fits) (halted _ (halted _ (b .then-literal .ensures) e) e) e (c .optional .ensures .is));
       sound = λ h. tt;
       missed = λ h. refl;
     }
@@ -46,16 +46,16 @@ returns-2 c =
     (then (sign (b .then-literal .ensures))
     (then (gap (d .before .then-blanks2 .ensures))
     (optional (λ p o. listAt constraint-list o t p) Absent (Here _) (λ o. refl) (d .before .then-blanks2 .ensures .fits) (drawn list)
-    (a .before .settle2 .ensures .is) inner)))
+    (a .before .optional2 .ensures .is) inner)))
     (mark (a .next-byte .ensures)))
     (λ h o. nil-right _) in
     record {
       drawn =
           then (gap blanks)
-          (optional (λ p o. listAt constraint-list o t p) Absent _ (λ o. refl) (blanks .fits) braces (c .before .settle3 .ensures .is)
+          (optional (λ p o. listAt constraint-list o t p) Absent _ (λ o. refl) (blanks .fits) braces (c .before .optional3 .ensures .is)
           (c .kept-part2 .ensures));
       sound = λ h. matched-inner (d .then-constraint-list .result) (a .next-byte .result) (matched list) inner (c .kept-part2 .ensures);
-      missed = λ h. c .kept-part2 .ensures ∙ pick-false _ _ _ (missed-before (braces .steps) (c .before .settle3 .ensures .is) h);
+      missed = λ h. c .kept-part2 .ensures ∙ pick-false _ _ _ (missed-before (braces .steps) (c .before .optional3 .ensures .is) h);
     }
 
 pub then-braces-spec : {M : Type 1} → statement M

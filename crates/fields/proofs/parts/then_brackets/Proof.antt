@@ -15,7 +15,7 @@ returns c =
     let b = a .before .before in
     let left = mark (b .before .next-byte .ensures) in
     let size = then (gap (b .then-blanks .ensures))
-    (omissible (λ o. refl) (b .then-blanks .ensures .fits) (a .before .then-size .ensures) (a .settle .ensures .is)) in
+    (omissible (λ o. refl) (b .then-blanks .ensures .fits) (a .before .then-size .ensures) (a .optional .ensures .is)) in
     let right = mark (c .before .next-byte2 .ensures) in
     let kept = c .kept-size .ensures in
     record {

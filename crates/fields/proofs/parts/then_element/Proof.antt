@@ -16,7 +16,7 @@ returns-2 c =
     let b = c .before .before .before in
     continue (Identifier _)
     (retold
-    (other _ (b .before .before .before .then-integer .ensures) (b .before .enum-told2 .given .1) (b .settle .ensures .is)
+    (other _ (b .before .before .before .then-integer .ensures) (b .before .enum-told2 .given .1) (b .optional .ensures .is)
     (name (c .before .before .then-identifier .ensures)))
     (λ h o. rw (c .before .between2 .ensures)))
     (λ h. tt) (c .kept-operand .ensures)

@@ -20,7 +20,7 @@ returns-2 c =
     continued e
     (retold
     (one _ _
-    (other _ (b .before .before .before .then-identifier .ensures) (b .before .enum-told2 .given .1) (b .settle .ensures .is)
+    (other _ (b .before .before .before .then-identifier .ensures) (b .before .enum-told2 .given .1) (b .optional .ensures .is)
     (payload-name (y .then-payload-identifier .ensures)))
     e)
     (λ h o. rw (c .between2 .ensures)))
@@ -34,9 +34,9 @@ returns-3 c =
     continue (OfBody _)
     (retold
     (other _
-    (other _ (b .before .before .before .then-identifier .ensures) (b .before .enum-told2 .given .1) (b .settle .ensures .is)
+    (other _ (b .before .before .before .then-identifier .ensures) (b .before .enum-told2 .given .1) (b .optional .ensures .is)
     (payload-name (y .then-payload-identifier .ensures)) .steps)
-    (k .before .enum-told4 .given .1) (k .settle2 .ensures .is) (body-name (c .before .before .then-body-identifier .ensures)))
+    (k .before .enum-told4 .given .1) (k .optional2 .ensures .is) (body-name (c .before .before .then-body-identifier .ensures)))
     (λ h o. rw (c .before .between3 .ensures)))
     (λ h. tt) (c .kept-target .ensures)
 

@@ -2,7 +2,7 @@
 use borrow.Author.Needs.{needs}
 use Rattle.meaning.specs.Rules.{Rule}
 use Rattle.meaning.specs.Pdl.{COMMENT}
-use Rattle.grammar.specs.Steps.{named, choice, kept, tried}
+use Rattle.grammar.specs.Steps.{reads-rule, choice, untried, tried}
 use Rattle.lexis.proofs.blanks.comment.Statement.{statement}
 use Rattle.lexis.proofs.blanks.comment.Tie as tie
 
@@ -10,13 +10,13 @@ returns : tie.Need-returns
 unfolding COMMENT
 returns c =
     let a = c .before .before .before in
-    named Rule.COMMENT (choice (a .block-comment .ensures) (kept _ _ ((a .block-comment .ensures) .fits) (c .before .n .given .1)))
+    reads-rule Rule.COMMENT (choice (a .block-comment .ensures) (untried _ _ ((a .block-comment .ensures) .fits) (c .before .n .given .1)))
 
 returns-2 : tie.Need-returns-2
 unfolding COMMENT
 returns-2 c =
     let a = c .before .before .before in
-    named Rule.COMMENT (choice (a .before .before .block-comment .ensures)
+    reads-rule Rule.COMMENT (choice (a .before .before .block-comment .ensures)
     (tried _ ((a .before .before .block-comment .ensures) .fits) (a .f .given .1) (c .before .line-comment .ensures) (c .joined .ensures)))
 
 pub comment-spec : {M : Type 1} → statement M

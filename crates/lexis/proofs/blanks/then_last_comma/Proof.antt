@@ -7,7 +7,7 @@ use Rattle.lexis.proofs.blanks.then_last_comma.Tie as tie
 returns : tie.Need-returns
 returns c =
     let b = c .before .before .before .then-blanks .ensures in
-    link b (option (b .fits) (c .before .then-literal .ensures) (c .settle .ensures .is))
+    link b (option (b .fits) (c .before .then-literal .ensures) (c .optional .ensures .is))
 
 pub then-last-comma-spec : {M : Type 1} → statement M
 then-last-comma-spec =

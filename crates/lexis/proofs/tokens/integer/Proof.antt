@@ -2,7 +2,7 @@
 use borrow.Author.Needs.{needs}
 use Rattle.meaning.specs.Rules.{Rule}
 use Rattle.meaning.specs.Pdl.{integer}
-use Rattle.grammar.specs.Steps.{named, choice, kept, tried}
+use Rattle.grammar.specs.Steps.{reads-rule, choice, untried, tried}
 use Rattle.lexis.proofs.tokens.integer.Statement.{statement}
 use Rattle.lexis.proofs.tokens.integer.Tie as tie
 
@@ -10,13 +10,13 @@ returns : tie.Need-returns
 unfolding integer
 returns c =
     let a = c .before .before .before in
-    named Rule.integer (choice (a .hexvalue .ensures) (kept _ _ ((a .hexvalue .ensures) .fits) (c .before .n .given .1)))
+    reads-rule Rule.integer (choice (a .hexvalue .ensures) (untried _ _ ((a .hexvalue .ensures) .fits) (c .before .n .given .1)))
 
 returns-2 : tie.Need-returns-2
 unfolding integer
 returns-2 c =
     let a = c .before .before .before in
-    named Rule.integer (choice (a .before .before .hexvalue .ensures)
+    reads-rule Rule.integer (choice (a .before .before .hexvalue .ensures)
     (tried _ ((a .before .before .hexvalue .ensures) .fits) (a .f .given .1) (c .before .intvalue .ensures) (c .joined .ensures)))
 
 pub integer-spec : {M : Type 1} → statement M

@@ -1,11 +1,11 @@
 -- `prefix` meets its contract: either of two texts.
 use borrow.Author.Needs.{needs}
-use Rattle.grammar.specs.Steps.{choice, kept, tried}
+use Rattle.grammar.specs.Steps.{choice, untried, tried}
 use Rattle.lexis.proofs.tokens.prefix.Statement.{statement}
 use Rattle.lexis.proofs.tokens.prefix.Tie as tie
 
 returns : tie.Need-returns
-returns c = (choice (c .before .before .before .literal .ensures) (kept _ _ ((c .before .before .before .literal .ensures) .fits) (c .before .n .given .1)))
+returns c = (choice (c .before .before .before .literal .ensures) (untried _ _ ((c .before .before .before .literal .ensures) .fits) (c .before .n .given .1)))
 
 returns-2 : tie.Need-returns-2
 returns-2 c =

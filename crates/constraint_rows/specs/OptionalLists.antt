@@ -8,7 +8,7 @@ use Rattle.meaning.specs.Forest.{Forest}
 use Rattle.meaning.specs.Pdl.{constraint, constraint-list}
 use Rattle.meaning.specs.Tables.{Item, Lent}
 use Rattle.meaning.specs.Walk.{part, parse-constraint-list}
-use Rattle.grammar.specs.Bounds.{Held}
+use Rattle.grammar.specs.Limits.{Limits}
 use Rattle.spans.specs.declared.Span.{Span}
 use Rattle.spans.specs.declared.Part.{Part}
 use Rattle.spans.specs.declared.Part.the-variants.{Here}
@@ -44,4 +44,4 @@ pub record Begun (src : List ℕ) (at : ℕ) (g : Part) (n : Walk) : Type 0 wher
 -- it goes over them: every bound of their nodes that lies in the source bounds where it comes to
 pub record GoesPart (src : List ℕ) (at : ℕ) (g : Part) (n r : Walk) (a b : Lent → Lent) : Type 0 where
   pub wrote : Wrote (partItems src at g) n r a b
-  pub came : (lo hi : ℕ) → at ≤ hi → hi ≤ length src → Held lo hi (listAt constraint-list at (drop at src) g) → At src hi r
+  pub came : (lo hi : ℕ) → at ≤ hi → hi ≤ length src → Limits lo hi (listAt constraint-list at (drop at src) g) → At src hi r

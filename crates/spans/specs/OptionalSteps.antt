@@ -22,13 +22,13 @@ use Rattle.spans.specs.Parts.{optional}
 use Rattle.spans.specs.Answers.{Continues, MatchedPart, matched, matched-part}
 
 -- p is what is kept of a part whose match is y
-kept : (y : Match) {s i : Span} {p : Part} → p ≡ pick (hit y) (Here s) Absent → s ≡ i → p ≡ pick (hit y) (Here i) Absent
-kept y h e = h ∙ ap (λ (z : Span). pick (hit y) (Here z) Absent) e
+part-is : (y : Match) {s i : Span} {p : Part} → p ≡ pick (hit y) (Here s) Absent → s ≡ i → p ≡ pick (hit y) (Here i) Absent
+part-is y h e = h ∙ ap (λ (z : Span). pick (hit y) (Here z) Absent) e
 
-pub kept-token : {m : Match} {g : Peg} {t : List ℕ} {y r : Match} {s i : Span} {p : Part} (k : Rule) → Within m t
+pub optional-token : {m : Match} {g : Peg} {t : List ℕ} {y r : Match} {s i : Span} {p : Part} (k : Rule) → Within m t
     → Follows m g t y (λ o. leafAt k o i) → r ≡ stay m y → p ≡ pick (hit y) (Here s) Absent → s ≡ i
     → Follows m (opt g) t r (λ o. drawPart k o p)
-kept-token {y = y} {i = i} k w f e h j = optional (λ x o. drawPart k o x) Absent (Here i) (λ o. refl) w f e (kept y h j)
+optional-token {y = y} {i = i} k w f e h j = optional (λ x o. drawPart k o x) Absent (Here i) (λ o. refl) w f e (part-is y h j)
 
 -- a match that took goes on from one that took
 pub before-hit : {m : Match} {g : Peg} {t : List ℕ} {r : Match} → Steps m g t r → hit r ≡ true → hit m ≡ true
@@ -44,14 +44,14 @@ missed-before {m} {g} {t} {y} {r} s e h =
     go (Took k f) (Missed g) = refl
     go (Took k f) (Took j g) = refl
 
-pub kept-list : {m : Match} {a b g z : Peg} {t : List ℕ} {c e l y r : Match} {s : Span} {p : Part} → Within m t
+pub optional-list : {m : Match} {a b g z : Peg} {t : List ℕ} {c e l y r : Match} {s : Span} {p : Part} → Within m t
     → Follows m a t c (λ o. nil) → Follows c b t e (λ o. nil) → Steps e g t l → Follows l z t y (λ o. nil) → r ≡ stay m y
     → p ≡ pick (hit y) (Here s) Absent → s ≡ spanOf e l
     → Continues m (opt (seq (seq a (seq b g)) z)) t r (λ x o. listAt g o t x) (λ x. MatchedPart g t x) Absent p
-kept-list {g = g} {t = t} {e = e} {l = l} {y = y} w f i s j k h q =
+optional-list {g = g} {t = t} {e = e} {l = l} {y = y} w f i s j k h q =
     let all = then (then f (then i (drawn s))) j in
     record {
-      drawn = optional (λ x o. listAt g o t x) Absent (Here (spanOf e l)) (λ o. refl) w (retold all (λ n o. nil-right _)) k (kept y h q);
-      sound = λ n. matched-part y (λ u. matched s (before-hit (j .steps) u)) (kept y h q);
-      missed = λ n. kept y h q ∙ ap (λ (b : Bool). pick b (Here (spanOf e l)) Absent) (missed-before (all .steps) k n);
+      drawn = optional (λ x o. listAt g o t x) Absent (Here (spanOf e l)) (λ o. refl) w (retold all (λ n o. nil-right _)) k (part-is y h q);
+      sound = λ n. matched-part y (λ u. matched s (before-hit (j .steps) u)) (part-is y h q);
+      missed = λ n. part-is y h q ∙ ap (λ (b : Bool). pick b (Here (spanOf e l)) Absent) (missed-before (all .steps) k n);
     }
