@@ -33,9 +33,9 @@ pub numbered : (k : ℕ) {n : ℕ} {t : List ℕ} {m : Match} → n ≡ k → Re
 unfolding ruled
 numbered k {n} {t} {m} e h = subst (λ (i : ℕ). Reads (rule-at i) t m) (sym e) h
 
-pub told : (k : ℕ) {n x : ℕ} (t : List ℕ) → n ≡ k → x ≡ extent (run (bytewise (rule-at k)) t) → x ≡ extent (run (bytewise (ruled n)) t)
+pub extent-is : (k : ℕ) {n x : ℕ} (t : List ℕ) → n ≡ k → x ≡ extent (run (bytewise (rule-at k)) t) → x ≡ extent (run (bytewise (ruled n)) t)
 unfolding ruled
-told k {n} {x} t e q = q ∙ ap (λ (i : ℕ). extent (run (bytewise (rule-at i)) t)) (sym e)
+extent-is k {n} {x} t e q = q ∙ ap (λ (i : ℕ). extent (run (bytewise (rule-at i)) t)) (sym e)
 
 -- n is none of i numbers from b on, as a match with an arm for each says
 abbrev None : ℕ → ℕ → ℕ → Type 0

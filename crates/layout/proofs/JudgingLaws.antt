@@ -36,18 +36,18 @@ same-foreseen a ps cs ps′ cs′ p q (Refused n) i = refl
 
 -- ---- what an accepted field keeps
 -- w has tables of these lengths, and f is the symbol of its first staged row
-pub record Held (ps cs : List ℕ) (w : World) (f : ℕ) : Type 0 where
+pub record Staging (ps cs : List ℕ) (w : World) (f : ℕ) : Type 0 where
   pub placed : length (w .ps) ≡ length ps
   pub chunks : length (w .cs) ≡ length cs
   pub first : w .st .start < w .st .placed → word (w .ps) placed-size (w .st .start) placed-symbol ≡ f
 
 module _ (ps cs : List ℕ) where
-  either : (d : Bool) (x y : World) (f : ℕ) → Held ps cs x f → Held ps cs y f → Held ps cs (pick d x y) f
+  either : (d : Bool) (x y : World) (f : ℕ) → Staging ps cs x f → Staging ps cs y f → Staging ps cs (pick d x y) f
   either true x y f g h = g
   either false x y f g h = h
 
-  module _ (w : World) (f : ℕ) (h : Held ps cs w f) where
-    stays : (i : ℕ) → Held ps cs w (pick (staged (w .st)) f i)
+  module _ (w : World) (f : ℕ) (h : Staging ps cs w f) where
+    stays : (i : ℕ) → Staging ps cs w (pick (staged (w .st)) f i)
     stays i = record { placed = h .placed; chunks = h .chunks; first = λ l. rw (lt-ltb _ _ l) (h .first l) }
 
     -- the row that a bit field takes
@@ -68,9 +68,9 @@ module _ (ps cs : List ℕ) where
             let z : w .st .start ≡ w .st .placed = omega (arith, b .good .ordered) in
             rw z (put-word placed-size (w .st .placed) row (w .ps) placed-symbol refl (fits-iff placed-size _ _ (omega arith) (b .row)) (omega arith))
 
-    held-bits : (i v : ℕ) → BitsFit v w → Held ps cs (bits-done i v w) (pick (staged (w .st)) f i)
+    staging-bits : (i v : ℕ) → BitsFit v w → Staging ps cs (bits-done i v w) (pick (staged (w .st)) f i)
     unfolding bits-done
-    held-bits i v b =
+    staging-bits i v b =
         let p = length-put placed-size (w .st .placed) (placed-words i v (w .st .width)) (w .ps) refl ∙ h .placed in
         let c = length-put chunk-size (w .st .chunks) (chunk-words 1 (w .st .start) (w .st .placed + 1 - w .st .start) (w .st .width + v) 0)
         (w .cs) refl ∙ h .chunks in
@@ -78,21 +78,21 @@ module _ (ps cs : List ℕ) where
         (record { placed = p; chunks = c; first = λ l. absurd (omega arith) })
         (record { placed = p; chunks = h .chunks; first = λ l. row-first i v b })
 
-    held-chunk : (kind i v : ℕ) → ChunkFits w → Held ps cs (chunk-done kind i v w) (pick (staged (w .st)) f i)
+    staging-chunk : (kind i v : ℕ) → ChunkFits w → Staging ps cs (chunk-done kind i v w) (pick (staged (w .st)) f i)
     unfolding chunk-done
-    held-chunk kind i v c =
+    staging-chunk kind i v c =
         record {
           placed = h .placed;
           chunks = length-put chunk-size (w .st .chunks) (chunk-words kind 0 0 v i) (w .cs) refl ∙ h .chunks;
           first = λ l. absurd (omega (arith, c .bare));
         }
 
-    held-next : (r : Request) (i : ℕ) → served r i w .number ≡ 0 → Held ps cs (served r i w .left) (pick (staged (w .st)) f i)
+    staging-next : (r : Request) (i : ℕ) → served r i w .number ≡ 0 → Staging ps cs (served r i w .left) (pick (staged (w .st)) f i)
     unfolding served call
-    held-next Nothing i e = stays i
-    held-next (Bits v) i e = rw e (held-bits i v (bits-fit v w e))
-    held-next Dynamic i e = rw e (held-chunk 3 i 0 (dyn-fit w e))
-    held-next (Refused n) i e = stays i
+    staging-next Nothing i e = stays i
+    staging-next (Bits v) i e = rw e (staging-bits i v (bits-fit v w e))
+    staging-next Dynamic i e = rw e (staging-chunk 3 i 0 (dyn-fit w e))
+    staging-next (Refused n) i e = stays i
 
 sound-served : (r : Request) (i : ℕ) (w : World) → Sound w → Sound (served r i w .left)
 unfolding served
@@ -104,7 +104,7 @@ sound-served (Refused n) i w s = s
 -- ---- the whole
 module _ (fs ps cs : List ℕ) where
   -- 16 is given where fields are staged
-  end-place : (w : World) (f : ℕ) → Sound w → Held ps cs w f → pick (eqb (end-number w) 0) 0 f
+  end-place : (w : World) (f : ℕ) → Sound w → Staging ps cs w f → pick (eqb (end-number w) 0) 0 f
       ≡ pick (eqb (end-number w) 0) 0 (word (w .ps) placed-size (w .st .start) placed-symbol)
   unfolding end-number
   end-place w f s h = rw (sound-is w s) (cases (ltb (w .st .start) (w .st .placed)) refl)
@@ -119,10 +119,10 @@ module _ (fs ps cs : List ℕ) where
   turn i zero x y l g = g refl
   turn i (suc m) x y l g = refl
 
-  pub judge-is : (n i : ℕ) (w : World) (f : ℕ) → Sound w → Held ps cs w f → judge fs ps cs n i (w .st) f ≡ verdict (feed-fields fs n i w)
+  pub judge-is : (n i : ℕ) (w : World) (f : ℕ) → Sound w → Staging ps cs w f → judge fs ps cs n i (w .st) f ≡ verdict (feed-fields fs n i w)
   unfolding judge feed-fields
   judge-is zero i w f s h = rw (← same-end (w .st) ps cs (w .ps) (w .cs) (h .placed) (h .chunks)) (rw (end-place w f s h))
   judge-is (suc n) i w f s h =
       let r = request fs i in
       rw (feeds i w fs, same-foreseen (w .st) ps cs (w .ps) (w .cs) (h .placed) (h .chunks) r i)
-      (turn i (served r i w .number) _ _ _ (λ e. judge-is n (i + 1) (served r i w .left) _ (sound-served r i w s) (held-next ps cs w f h r i e)))
+      (turn i (served r i w .number) _ _ _ (λ e. judge-is n (i + 1) (served r i w .left) _ (sound-served r i w s) (staging-next ps cs w f h r i e)))

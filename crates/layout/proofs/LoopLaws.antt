@@ -16,7 +16,7 @@ use Rattle.alignment.specs.SoundLaws.{sound-fresh}
 use Rattle.layout.specs.declared.Request.{Request}
 use Rattle.layout.specs.Requests.{request, served, feeds}
 use Rattle.layout.specs.Judging.{foreseen, verdict, judge}
-use Rattle.layout.proofs.JudgingLaws.{Held, judge-is}
+use Rattle.layout.proofs.JudgingLaws.{Staging, judge-is}
 
 -- ---- the judging loop
 module _ (fs ps cs : List ℕ) where
@@ -24,7 +24,7 @@ module _ (fs ps cs : List ℕ) where
       → judge fs ps cs (first + count - first) first a first ≡ verdict (feed-fields fs count first (world fresh ps cs))
   judge-start first count e =
       let n : first + count - first ≡ count = omega arith in
-      let h : Held ps cs (world fresh ps cs) first = record { placed = refl; chunks = refl; first = λ l. absurd (omega arith) } in
+      let h : Staging ps cs (world fresh ps cs) first = record { placed = refl; chunks = refl; first = λ l. absurd (omega arith) } in
       rw (n, e) (judge-is fs ps cs count first (world fresh ps cs) first (sound-fresh ps cs) h)
 
   -- c is what the field at row i would be answered
