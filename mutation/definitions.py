@@ -88,7 +88,7 @@ def definitions(source: str) -> Iterator[List[Clause]]:
     """The clauses of each definition; a definition that only opens others has none."""
     for block in re.finditer(r"^(?:abbrev|unfoldable) .*\n(?:[ ].*\n)*((?:(?!abbrev |unfoldable |pub |infix|--).+\n)+)", source, re.M):
         if not block.group(1).startswith("unfolding"):
-            yield [clause(block.start(1), part) for part in re.finditer(r"^\S.*\n(?:[ ].*\n)*", block.group(1), re.M)]
+            yield [clause(block.start(1), part) for part in re.finditer(r"^[^\s}].*\n(?:[ }].*\n)*", block.group(1), re.M)]
 
 
 def clause(shift: int, part: re.Match) -> Clause:
