@@ -1,4 +1,6 @@
 // The byte aligner's core (alignment.rs, `ByteAligner`): a state by value over two lent tables of words.
+#![tactic(auto)]
+
 ghost use Rattle.std.specs.Prelude.{◌≡◌, not, ◌<◌};
 ghost use Rattle.meaning.specs.Tables.{put};
 ghost use Rattle.meaning.specs.Rows.{placed_size, chunk_size};
@@ -9,7 +11,7 @@ use ast::numbers;
 use meaning::Aligner;
 
 // What a call answers: the refusal number, 0 when accepted, and the state after it.
-#[derive(Drop)]
+#[derive(Clone, Copy)]
 pub struct Called {
     pub number: u64,
     pub state: Aligner,
@@ -17,7 +19,7 @@ pub struct Called {
 
 // What the end answers: the refusal number and the chunk count, 0 when refused.
 #[repr(C)]
-#[derive(Drop)]
+#[derive(Clone, Copy)]
 pub struct Ended {
     pub number: u64,
     pub chunks: usize,

@@ -1,5 +1,5 @@
 -- Laws of rows in a table, over the row size.
-use Rattle.std.specs.Prelude.{ℕ, suc, ◌+◌, ◌-◌, ◌*◌, ◌/◌, ◌≤◌, ◌<◌, ◌≡◌, refl, List, [], ◌∷◌, ◌++◌, Bool, true, false, length, get_or, take, drop, leb}
+use Rattle.std.specs.Prelude.{ℕ, suc, ◌+◌, ◌*◌, ◌/◌, ◌≤◌, ◌<◌, ◌≡◌, refl, List, [], ◌∷◌, ◌++◌, Bool, true, false, length, get_or, take, drop, leb}
 use Rattle.std.proofs.Common.{ap, sym, ◌∙◌, append_assoc, append-nil, add-mul, mul-zero, one-mul, add-zero, zero-add, zero-mul, suc-mul, le-div_iff_mul-le, div-lt_iff_lt-mul, arith, take-append-drop, length-append, take-take, drop-drop, length-take-le, take_at, drop_at, get_or-take, get_or-append-add, le-leb, leb-true, leb-false}
 use Rattle.std.proofs.lemmas.List.{take-append-le}
 use Rattle.std.proofs.Math.Seq.{paste, take-length}

@@ -1,4 +1,6 @@
 // Rows of words in lent tables (ast.rs: its records become rows).
+#![tactic(auto)]
+
 pub mod names;
 pub mod numbers;
 pub mod words;

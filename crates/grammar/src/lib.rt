@@ -1,5 +1,7 @@
 // The combinators that every matcher is made of: a match goes on from another, stays where it was, or is tried after one
 // that missed.
+#![tactic(auto)]
+
 ghost use Rattle.std.specs.Prelude.{◌≡◌, ◌+◌, ◌^◌, ◌≤◌, ◌<◌, max, length, drop};
 ghost use Rattle.meaning.specs.Peg.{lift, join, hit, taken};
 ghost use Rattle.grammar.specs.Matching.{Within, Stays, stay};

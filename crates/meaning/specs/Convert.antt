@@ -1,5 +1,5 @@
 -- The converter, as `as_usize` (01, 'Integers'): a text beginning `0x` in base 16 after the prefix, any other in base 10.
-use Rattle.std.specs.Prelude.{ℕ, ◌+◌, ◌-◌, ◌*◌, ◌^◌, List, [], ◌∷◌, Bool, true, false, ltb, leb, eqb}
+use Rattle.std.specs.Prelude.{ℕ, ◌+◌, ◌-◌, ◌*◌, ◌^◌, List, [], ◌∷◌, ltb, leb, eqb}
 use Rattle.meaning.specs.declared.Converted.{Converted}
 use Rattle.meaning.specs.declared.Converted.TheVariants.{Value, Empty, BadDigit, TooLarge}
 use Rattle.meaning.specs.Choice.{pick, both}

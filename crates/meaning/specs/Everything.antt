@@ -13,8 +13,8 @@ use Rattle.meaning.specs.Alignment.{sound, due, bits_number, bytes_number, dyn_n
 use Rattle.meaning.specs.Feeding.{feed_field, feed_fields, feed_number, layout}
 
 unfoldable pub everything : ℕ
-unfolding character valid_for many run many_o eval nodes rules fold moved starts_from digits rows_of first_bad put puts flat rows_in each numbers constraint_number
-    constraint_row parse_constraint_list tag_row parse_enum_value parse_enum_range parse_enum_other parse_enum_tag describe parse_field parse_field_list
-    parse_declaration parse_toplevel comments unmatched walked reading answer sound due bits_number bytes_number dyn_number end_number bits_done
-    chunk_done call calls aligner-numbers feed_field feed_fields feed_number layout
+unfolding character valid_for many run many_o eval nodes rules fold moved starts_from digits rows_of first_bad put puts flat rows_in each
+    numbers constraint_number constraint_row parse_constraint_list tag_row parse_enum_value parse_enum_range parse_enum_other parse_enum_tag
+    describe parse_field parse_field_list parse_declaration parse_toplevel comments unmatched walked reading answer sound due bits_number
+    bytes_number dyn_number end_number bits_done chunk_done call calls aligner-numbers feed_field feed_fields feed_number layout
 everything = 0

@@ -1,5 +1,5 @@
 -- The meaning with its forest: what each rule matched, in source order; starts are offsets in the source.
-use Rattle.std.specs.Prelude.{ℕ, zero, suc, ◌+◌, max, List, [], ◌∷◌, Bool, true, false, length, drop}
+use Rattle.std.specs.Prelude.{ℕ, zero, suc, ◌+◌, max, List, true, length, drop}
 use Rattle.meaning.specs.declared.Match.{Match}
 use Rattle.meaning.specs.declared.Match.TheVariants.{Missed, Took}
 use Rattle.meaning.specs.Choice.{pick}

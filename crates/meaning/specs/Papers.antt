@@ -4,7 +4,7 @@ use Prim.Native.String.{String}
 use Rattle.meaning.specs.Choice.{pick}
 use Rattle.meaning.specs.Quoted.{bytes}
 use Rattle.meaning.specs.Convert.{convert, reason_of, value_of}
-use Rattle.meaning.specs.Tables.{Table, Item, rows_of, flat}
+use Rattle.meaning.specs.Tables.{Table, rows_of, flat}
 use Rattle.meaning.specs.Rows.{placed_size, chunk_size}
 use Rattle.meaning.specs.Reading.{Reading, refused, accepted, reading}
 use Rattle.meaning.specs.Alignment.{Call, add_bitfield, align, calls, numbers, World, world, fresh}

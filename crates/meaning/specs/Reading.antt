@@ -1,5 +1,5 @@
 -- What a source reads as, with refusals 1 to 5 in 01's order, and what the lent tables hold afterwards.
-use Rattle.std.specs.Prelude.{ℕ, zero, suc, ◌+◌, ◌-◌, List, [], ◌∷◌, Bool, true, false, length, get_or, take, drop, ltb, eqb}
+use Rattle.std.specs.Prelude.{ℕ, zero, suc, ◌+◌, ◌-◌, List, [], ◌∷◌, length, get_or, take, drop, ltb, eqb}
 use Rattle.meaning.specs.Choice.{pick}
 use Rattle.meaning.specs.Utf8.{valid}
 use Rattle.meaning.specs.Peg.{run, hit, taken}

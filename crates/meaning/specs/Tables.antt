@@ -1,5 +1,5 @@
 -- The five tables: what a walk yields for them, and what rows leave in lent words (01, 'Rows').
-use Rattle.std.specs.Prelude.{ℕ, zero, suc, ◌+◌, ◌*◌, ◌/◌, List, [], ◌∷◌, ◌++◌, Bool, true, false, length, take, drop, leb, eqb, ltb}
+use Rattle.std.specs.Prelude.{ℕ, zero, suc, ◌+◌, ◌*◌, ◌/◌, List, [], ◌∷◌, ◌++◌, length, take, drop, leb, eqb, ltb}
 use Rattle.meaning.specs.Choice.{pick}
 
 -- the tables by their numbers: declarations 1, fields 2, tags 3, constraints 4, comments 5

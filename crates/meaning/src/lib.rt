@@ -1,12 +1,14 @@
 // The meaning of the front end: every definition that the promises rest on stands in specs/. The types below are the ones
 // that the definitions and the code share.
+#![tactic(auto)]
+
 ghost use Rattle.std.specs.Prelude.{◌≡◌};
 ghost use Rattle.meaning.specs.Places.{location};
 ghost use Rattle.meaning.specs.Alignment.{max_chunk_width, fresh};
 
 // What a matcher answers: how far a try failed, plus 1 (0: none did), where it missed; how much it took, and the same mark,
 // where it matched.
-#[derive(Drop)]
+#[derive(Clone, Copy)]
 pub enum Match {
     Missed(usize),
     Took(usize, usize),
@@ -14,7 +16,7 @@ pub enum Match {
 
 // A place in a source: offset, line and column, from zero, in bytes (ast.rs).
 #[repr(C)]
-#[derive(Drop)]
+#[derive(Clone, Copy)]
 pub struct SourceLocation {
     pub offset: usize,
     pub line: usize,
@@ -51,7 +53,7 @@ impl SourceLocation {
 }
 
 // What the converter answers (01, 'Blanks and literals').
-#[derive(Drop)]
+#[derive(Clone, Copy)]
 pub enum Converted {
     Value(u64),
     Empty,
@@ -61,7 +63,7 @@ pub enum Converted {
 
 // The aligner's state (01, 'Aligner'): rows placed, chunk rows, the first staged placed row, the staged width.
 #[repr(C)]
-#[derive(Drop)]
+#[derive(Clone, Copy)]
 pub struct Aligner {
     pub placed: usize,
     pub chunks: usize,

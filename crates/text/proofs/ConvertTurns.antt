@@ -11,7 +11,6 @@ use lib.Seq.{drop-cons}
 use lib.Dec.{leb, eqb}
 use Rattle.meaning.specs.declared.Converted.TheVariants.{Value, Empty, BadDigit, TooLarge}
 use Rattle.meaning.specs.Choice.{pick}
-use Rattle.meaning.specs.Places.{at}
 use Rattle.meaning.specs.Convert.{digit_of, digits, some, radix, convert}
 
 -- ---- the digits: one more, the end, and a number that is too large already

@@ -10,7 +10,6 @@ use lib.Seq.{drop-drop}
 use lib.Dec.{leb}
 use Rattle.meaning.specs.Choice.{pick, both}
 use Rattle.meaning.specs.Utf8.{Octet, ◌to◌, tail, holds, has, forms, character, valid}
-use Rattle.meaning.specs.Places.{at}
 use Rattle.text.specs.ChoiceLaws.{both_yes}
 use Rattle.text.specs.Utf8Laws.{octets, holds_under, has_step, has_end, has_fits, ascends, top, by_form, by_none, character_fits, character_none, valid_step, valid_stop, valid_fits}
 

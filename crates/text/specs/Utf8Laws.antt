@@ -1,5 +1,5 @@
 -- Laws of UTF-8: what the first byte says of a character, its length, and the valid prefix one character on.
-use Rattle.std.specs.Prelude.{ℕ, zero, suc, ◌+◌, ◌-◌, ◌≤◌, ◌<◌, ◌≡◌, refl, List, [], ◌∷◌, Bool, true, false, length, get_or, drop, replicate, leb}
+use Rattle.std.specs.Prelude.{ℕ, zero, suc, ◌+◌, ◌≤◌, ◌<◌, ◌≡◌, refl, List, [], ◌∷◌, Bool, true, false, length, get_or, drop, replicate, leb}
 use Rattle.std.proofs.Common.{ap, sym, ◌∙◌, add-one, arith, le-leb, leb-true, length-drop, drop_of_length-le}
 use Rattle.std.proofs.lemmas.Bool.{lt-leb}
 use Rattle.std.proofs.Math.Seq.{drop-cons}

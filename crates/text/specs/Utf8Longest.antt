@@ -1,5 +1,5 @@
 -- What the UTF-8 test means: the valid prefix is valid, no longer prefix is, and a wide character has no byte of ASCII.
-use Rattle.std.specs.Prelude.{ℕ, zero, suc, ◌+◌, ◌-◌, ◌≤◌, ◌<◌, ◌≡◌, refl, List, [], ◌∷◌, Bool, true, false, length, get_or, take, drop, leb}
+use Rattle.std.specs.Prelude.{ℕ, zero, suc, ◌+◌, ◌≤◌, ◌<◌, ◌≡◌, refl, List, [], ◌∷◌, Bool, true, false, length, get_or, take, drop, leb}
 use Rattle.std.proofs.Common.{ap, sym, ◌∙◌, zero-add, suc-add, arith, leb-true, length-drop}
 use Rattle.meaning.specs.Choice.{pick, both, either}
 use Rattle.meaning.specs.Utf8.{Octet, holds, has, formed, forms, character, valid}

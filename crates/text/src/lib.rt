@@ -1,4 +1,6 @@
 // The bytes of a source: the UTF-8 test, places carried forward, and the converter of integers.
+#![tactic(auto)]
+
 ghost use Rattle.std.specs.Prelude.{◌≡◌, ◌+◌, ◌^◌, ◌≤◌, ◌<◌, length, get_or, drop};
 ghost use Rattle.meaning.specs.Choice.{pick};
 ghost use Rattle.meaning.specs.Utf8.{has, character, valid};

@@ -1,7 +1,6 @@
 -- Worked examples of the aligner: refusals 10 to 13, 16 and 18 and which of two comes first, and what accepted calls leave. There are
 -- three placed rows and two chunk rows.
 use Rattle.std.specs.Prelude.{ℕ, refl, List, [], ◌∷◌, ◌++◌, map}
-use Rattle.meaning.specs.declared.Aligner.{Aligner}
 use Rattle.meaning.specs.Alignment.{World, world, sound, due, Call, add_bitfield, add_bytes, add_dyn_bytes, align, call, calls, numbers, end_chunks}
 use Rattle.meaning.specs.Everything.{everything}
 use Rattle.meaning.specs.Papers.{blank_placed, blank_chunks, desk}

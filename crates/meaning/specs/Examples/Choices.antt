@@ -1,5 +1,5 @@
 -- Worked examples of choices, of rules told apart, and of the tables' numbers and sizes.
-use Rattle.std.specs.Prelude.{ℕ, refl, List, [], ◌∷◌, ◌++◌, map, Bool, true, false}
+use Rattle.std.specs.Prelude.{ℕ, refl, List, [], ◌∷◌, map, Bool, true, false}
 use Rattle.meaning.specs.Choice.{pick, both, either}
 use Rattle.meaning.specs.Rules.{Rule, order}
 use Rattle.meaning.specs.Tables.{number, size, all, first_of}

@@ -1,12 +1,11 @@
 -- Worked examples of matches: every kind of expression, with how much it takes and how far a try failed (the mark: that offset plus 1),
 -- as `run` and as `eval` say it; blanks, letters and literals at their borders; the nodes of a match.
-use Rattle.std.specs.Prelude.{ℕ, refl, List, [], ◌∷◌, ◌++◌, map}
-use Prim.Native.String.{String}
+use Rattle.std.specs.Prelude.{ℕ, refl, List, [], ◌∷◌, ◌++◌}
 use Rattle.meaning.specs.declared.Match.{Match}
 use Rattle.meaning.specs.declared.Match.TheVariants.{Missed, Took}
 use Rattle.meaning.specs.Quoted.{bytes}
 use Rattle.meaning.specs.Rules.{Rule, order}
-use Rattle.meaning.specs.Peg.{Peg, lit, range, any, any_byte, end, neg, seq, alt, star, opt, quiet, rule, run, bytewise, hit, taken}
+use Rattle.meaning.specs.Peg.{Peg, range, any, any_byte, end, neg, seq, alt, star, opt, quiet, rule, run, bytewise, hit, taken}
 use Rattle.meaning.specs.Forest.{Forest, nil, tree, outcome, eval, forest, nodes}
 use Rattle.meaning.specs.Pdl.{text, plus, WHITESPACE, COMMENT, skip, alpha, digit, hexdigit, alphanum, identifier, intvalue, hexvalue, integer, string, size_modifier, endianness_declaration, constraint, file_start, file_line, file_head}
 use Rattle.meaning.specs.Everything.{everything}

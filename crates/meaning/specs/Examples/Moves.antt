@@ -1,5 +1,5 @@
 -- Worked examples of moving, beside those of Moved: each sort of word, and what a source may be cut behind.
-use Rattle.std.specs.Prelude.{ℕ, ◌*◌, refl, List, [], ◌∷◌, ◌++◌, map, eqb}
+use Rattle.std.specs.Prelude.{ℕ, ◌*◌, refl, List, [], ◌∷◌, map, eqb}
 use Rattle.meaning.specs.Choice.{pick}
 use Rattle.meaning.specs.Quoted.{bytes}
 use Rattle.meaning.specs.Rules.{Rule}

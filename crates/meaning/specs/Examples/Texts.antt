@@ -1,5 +1,5 @@
 -- Worked examples of texts: RFC 3629's edges, places, integers, quoted texts, the text of a name.
-use Rattle.std.specs.Prelude.{ℕ, refl, List, [], ◌∷◌, ◌++◌}
+use Rattle.std.specs.Prelude.{ℕ, refl, List, [], ◌∷◌}
 use Prim.Native.String.{String}
 use Rattle.meaning.specs.declared.SourceLocation.{SourceLocation}
 use Rattle.meaning.specs.Quoted.{bytes}
