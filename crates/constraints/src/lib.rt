@@ -1,4 +1,6 @@
 // Constraints: `id = tag` and `id = integer`, alone and in lists.
+#![tactic(auto)]
+
 ghost use Rattle.std.specs.Prelude.{◌≡◌};
 ghost use Rattle.meaning.specs.Choice.{pick};
 ghost use Rattle.meaning.specs.Peg.{seq, alt, star, hit};

@@ -14,7 +14,7 @@ use lexis::tokens::then_whitespace;
 use meaning::Match;
 
 // The match of a file, and 01's place of 3 for where it missed.
-#[derive(Drop)]
+#[derive(Clone, Copy)]
 pub struct FileMatch {
     pub at: Match,
     pub place: usize,

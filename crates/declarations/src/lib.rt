@@ -1,4 +1,6 @@
 // Declarations: the seven kinds, and the choice between them.
+#![tactic(auto)]
+
 ghost use Rattle.std.specs.Prelude.{◌≡◌, get_or};
 ghost use Rattle.meaning.specs.Peg.{seq, opt};
 ghost use Rattle.meaning.specs.Pdl.{skip, field_list, enum_declaration, packet_declaration, struct_declaration, group_declaration, checksum_declaration, custom_field_declaration, declaration};

@@ -1,4 +1,6 @@
 // Fields: a field's description with its condition, and lists of fields.
+#![tactic(auto)]
+
 pub mod kinds;
 pub mod named;
 pub mod parts;
@@ -26,7 +28,7 @@ use meaning::Match;
 use spans::{Condition, Constraint, DescMatch, FieldDesc, FieldMatch};
 
 // The rules of a description that start with a word in underscores, in the order of the choice.
-#[derive(Drop)]
+#[derive(Clone, Copy)]
 pub enum FieldKind {
     Checksum,
     Padding,

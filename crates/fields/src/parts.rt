@@ -31,13 +31,13 @@ use spans::{
 };
 
 // A match with one token, and with two.
-#[derive(Drop)]
+#[derive(Clone, Copy)]
 pub struct Leaf {
     pub at: Match,
     pub span: Span,
 }
 
-#[derive(Drop)]
+#[derive(Clone, Copy)]
 pub struct Pair {
     pub at: Match,
     pub first: Span,
@@ -144,13 +144,13 @@ pub fn then_numbers(s: &[u8], m: Match) -> Pair
 }
 
 // What a size is of, and an array's size.
-#[derive(Drop)]
+#[derive(Clone, Copy)]
 pub struct TargetMatch {
     pub at: Match,
     pub target: Target,
 }
 
-#[derive(Drop)]
+#[derive(Clone, Copy)]
 pub struct SizeMatch {
     pub at: Match,
     pub size: ArraySize,
@@ -264,7 +264,7 @@ pub fn then_brackets(s: &[u8], m: Match) -> SizeMatch
 }
 
 // A match with a list that may be absent.
-#[derive(Drop)]
+#[derive(Clone, Copy)]
 pub struct ListMatch {
     pub at: Match,
     pub list: Part,

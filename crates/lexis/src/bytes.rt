@@ -9,7 +9,7 @@ use grammar::joined;
 use meaning::Match;
 
 // The classes of bytes that tokens are made of.
-#[derive(Drop)]
+#[derive(Clone, Copy)]
 pub enum Class {
     Space,
     Alpha,

@@ -18,7 +18,6 @@ use Rattle.spans.specs.declared.Part.TheVariants.{Absent, Here}
 use Rattle.spans.specs.declared.Operand.TheVariants.{Identifier}
 use Rattle.spans.specs.declared.Constraint.{Constraint}
 use Rattle.spans.specs.declared.ConstraintMatch.{ConstraintMatch}
-use Rattle.spans.specs.declared.Condition.{Condition}
 use Rattle.spans.specs.declared.Condition.TheVariants.{Always}
 use Rattle.spans.specs.declared.Tag.{Tag}
 use Rattle.spans.specs.declared.Tag.TheVariants.{Value, Range, Other}

@@ -17,9 +17,6 @@ use Rattle.spans.specs.declared.Target.TheVariants.{OfField, OfPayload, OfBody}
 use Rattle.spans.specs.declared.Constraint.{Constraint}
 use Rattle.spans.specs.declared.Condition.{Condition}
 use Rattle.spans.specs.declared.Condition.TheVariants.{Always, If}
-use Rattle.spans.specs.declared.TagValue.{TagValue}
-use Rattle.spans.specs.declared.TagRange.{TagRange}
-use Rattle.spans.specs.declared.TagOther.{TagOther}
 use Rattle.spans.specs.declared.Tag.{Tag}
 use Rattle.spans.specs.declared.Tag.TheVariants.{Value, Range, Other}
 use Rattle.spans.specs.declared.FieldDesc.{FieldDesc}

@@ -1,5 +1,5 @@
 -- The span between two matches.
-use Rattle.std.specs.Prelude.{ℕ, ◌-◌}
+use Rattle.std.specs.Prelude.{◌-◌}
 use Rattle.meaning.specs.declared.Match.{Match}
 use Rattle.meaning.specs.Peg.{taken}
 use Rattle.spans.specs.declared.Span.{Span}

@@ -1,5 +1,7 @@
 // What the matchers of rules that make rows answer beside their match: where the rule's parts stand, as the nodes of the
 // forest have them. Starts are counted from the start of the text that the matcher was given.
+#![tactic(auto)]
+
 ghost use Rattle.std.specs.Prelude.{◌≡◌};
 ghost use Rattle.meaning.specs.Choice.{pick};
 ghost use Rattle.meaning.specs.Peg.{hit};
@@ -11,28 +13,28 @@ ghost use Rattle.spans.specs.declared.Part.TheVariants.{Absent};
 use meaning::Match;
 
 // A part's first byte and its length.
-#[derive(Drop)]
+#[derive(Clone, Copy)]
 pub struct Span {
     pub start: usize,
     pub len: usize,
 }
 
 // A part that may be absent: a header's parent, width, function or list, a range's or a group's list, a payload's modifier.
-#[derive(Drop)]
+#[derive(Clone, Copy)]
 pub enum Part {
     Absent,
     Here(Span),
 }
 
 // A name or a number: a constraint's value, an array's element.
-#[derive(Drop)]
+#[derive(Clone, Copy)]
 pub enum Operand {
     Identifier(Span),
     Integer(Span),
 }
 
 // An array's size: none, a modifier or a number.
-#[derive(Drop)]
+#[derive(Clone, Copy)]
 pub enum ArraySize {
     Unknown,
     Modifier(Span),
@@ -40,7 +42,7 @@ pub enum ArraySize {
 }
 
 // What `_size_` names: a field, the payload or the body.
-#[derive(Drop)]
+#[derive(Clone, Copy)]
 pub enum Target {
     OfField(Span),
     OfPayload(Span),
@@ -48,14 +50,14 @@ pub enum Target {
 }
 
 // The match of a name or a number.
-#[derive(Drop)]
+#[derive(Clone, Copy)]
 pub struct OperandMatch {
     pub at: Match,
     pub operand: Operand,
 }
 
 // A constraint (ast::Constraint): its own place, its id, and the tag's name or the integer.
-#[derive(Drop)]
+#[derive(Clone, Copy)]
 pub struct Constraint {
     pub span: Span,
     pub id: Span,
@@ -63,26 +65,26 @@ pub struct Constraint {
 }
 
 // When a field is there: always, or where a constraint holds.
-#[derive(Drop)]
+#[derive(Clone, Copy)]
 pub enum Condition {
     Always,
     If(Constraint),
 }
 
-#[derive(Drop)]
+#[derive(Clone, Copy)]
 pub struct ConstraintMatch {
     pub at: Match,
     pub constraint: Constraint,
 }
 
 // The tags of an enum (ast::Tag): a value, a range with its inner list, the default.
-#[derive(Drop)]
+#[derive(Clone, Copy)]
 pub struct TagValue {
     pub id: Span,
     pub value: Span,
 }
 
-#[derive(Drop)]
+#[derive(Clone, Copy)]
 pub struct TagRange {
     pub id: Span,
     pub start: Span,
@@ -90,26 +92,26 @@ pub struct TagRange {
     pub tags: Part,
 }
 
-#[derive(Drop)]
+#[derive(Clone, Copy)]
 pub struct TagOther {
     pub id: Span,
 }
 
-#[derive(Drop)]
+#[derive(Clone, Copy)]
 pub enum Tag {
     Value(TagValue),
     Range(TagRange),
     Other(TagOther),
 }
 
-#[derive(Drop)]
+#[derive(Clone, Copy)]
 pub struct TagMatch {
     pub at: Match,
     pub tag: Tag,
 }
 
 // What a field says (ast::FieldDesc), in the order of the kinds 1 to 14.
-#[derive(Drop)]
+#[derive(Clone, Copy)]
 pub enum FieldDesc {
     Checksum(Span),
     Padding(Span),
@@ -127,14 +129,14 @@ pub enum FieldDesc {
     Group(Span, Part),
 }
 
-#[derive(Drop)]
+#[derive(Clone, Copy)]
 pub struct DescMatch {
     pub at: Match,
     pub desc: FieldDesc,
 }
 
 // A whole field: its description and its condition.
-#[derive(Drop)]
+#[derive(Clone, Copy)]
 pub struct FieldMatch {
     pub at: Match,
     pub desc: DescMatch,
@@ -142,7 +144,7 @@ pub struct FieldMatch {
 }
 
 // The head of a declaration up to its first list or its end: what the row of a declaration needs.
-#[derive(Drop)]
+#[derive(Clone, Copy)]
 pub struct Header {
     pub at: Match,
     pub keyword: Span,

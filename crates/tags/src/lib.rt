@@ -1,4 +1,6 @@
 // Tags of an enum: `id = value`, `id = start .. end` with values in braces or none, and `id = ..`; alone and in lists.
+#![tactic(auto)]
+
 ghost use Rattle.std.specs.Prelude.{◌≡◌};
 ghost use Rattle.meaning.specs.Choice.{pick};
 ghost use Rattle.meaning.specs.Peg.{seq, star, hit};
@@ -30,7 +32,7 @@ fn tagged(at: Match, tag: Tag) -> TagMatch
 }
 
 // The front that all tags share: its name, and where the blanks behind its `=` end.
-#[derive(Drop)]
+#[derive(Clone, Copy)]
 struct Label {
     at: Match,
     id: Span,
@@ -116,7 +118,7 @@ pub fn enum_value_list(s: &[u8]) -> Match
 }
 
 // The values in braces behind a range, as one part: where it ends, and its list.
-#[derive(Drop)]
+#[derive(Clone, Copy)]
 struct Braces {
     at: Match,
     tags: Part,
