@@ -1,5 +1,7 @@
 // The comments of a source, by one pass over its bytes in linear time. A string is passed as a whole: what looks like a
 // comment inside it is none.
+#![tactic(auto)]
+
 ghost use Rattle.std.specs.Prelude.{◌≡◌, ◌<◌, eqb, length};
 ghost use Rattle.meaning.specs.Choice.{both};
 ghost use Rattle.meaning.specs.Tables.{Table};

@@ -1,6 +1,6 @@
 -- A constraint in the words of its spans: its row, what writing it needs, and the form of a list of constraints.
 use Rattle.std.specs.Prelude.{ℕ, ◌+◌, ◌-◌, ◌≤◌, ◌<◌, ◌≡◌, refl, List, [], ◌∷◌, ◌++◌, true, length}
-use Rattle.std.proofs.Common.{arith, ap, ap₂, sym, ◌∙◌, append-nil}
+use Rattle.std.proofs.Common.{ap, ap₂, sym, ◌∙◌, append-nil}
 use Rattle.meaning.specs.Peg.{bytewise}
 use Rattle.meaning.specs.Forest.{Forest, nil, ◌⊕◌}
 use Rattle.meaning.specs.Pdl.{identifier, alpha, constraint}

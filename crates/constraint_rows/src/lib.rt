@@ -1,4 +1,6 @@
 // The rows of constraints: one constraint, a list of them as the walk goes over it, and the list that a part says.
+#![tactic(auto)]
+
 ghost use Rattle.meaning.specs.Tables.{Table};
 ghost use Rattle.walk.specs.State.{lend};
 ghost use Rattle.walk.specs.Lists.{GoesOne, GoesAll};

@@ -1,5 +1,5 @@
 -- The head of a declaration: what its rows ask, and what they come to.
-use Prim.Native.Nat.{ℕ, ◌+◌, ◌-◌, ◌≤◌}
+use Prim.Native.Nat.{ℕ, ◌+◌, ◌≤◌}
 use native.Mathlib.Omega.{arith}
 use mathlib.Core.Path.{◌≡◌, ap, subst, sym, ◌∙◌}
 use mathlib.Core.List.{List, ◌++◌}

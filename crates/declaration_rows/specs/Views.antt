@@ -22,7 +22,8 @@ use Rattle.declaration_rows.specs.Members.{member_nodes, member_items, own}
 use Rattle.declaration_rows.specs.Items.{One, Members, items_in, table_of}
 
 -- ---- the constraints
-pub one_at : (src : List ℕ) (o : ℕ) (g : Part) → MatchedPart constraint_list (drop o src) g → One Rule.constraint_list (list_at constraint_list o (drop o src) g)
+pub one_at : (src : List ℕ) (o : ℕ) (g : Part) → MatchedPart constraint_list (drop o src) g
+    → One Rule.constraint_list (list_at constraint_list o (drop o src) g)
 one_at src o Absent m = One.none
 one_at src o (Here s) m = subst (λ (v : Forest). One Rule.constraint_list v) (sym (list_node constraint_form constraint_rule src o m)) (One.one _ _ _)
 

@@ -34,7 +34,7 @@ pub fn head_of(s: &[u8], kind: u64) -> Header
 }
 
 // What a head says, the place where it starts, and the walk behind its constraints.
-#[derive(Drop)]
+#[derive(Clone, Copy)]
 pub struct Headed {
     pub walk: Walk,
     pub start: SourceLocation,

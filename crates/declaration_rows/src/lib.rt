@@ -1,4 +1,6 @@
 // The rows of declarations: one declaration, and all of a file as the walk goes over them.
+#![tactic(auto)]
+
 ghost use Rattle.std.specs.Prelude.{◌≡◌, ◌≤◌, length};
 ghost use Rattle.meaning.specs.Tables.{Table};
 ghost use Rattle.walk.specs.State.{lend, At};
@@ -138,7 +140,7 @@ fn put_members(
 }
 
 // What stands in a declaration: its head, the walk behind its members, and where it ends.
-#[derive(Drop)]
+#[derive(Clone, Copy)]
 struct Parts {
     head: Headed,
     walk: Walk,

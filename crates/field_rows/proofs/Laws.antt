@@ -13,7 +13,7 @@ use Rattle.meaning.specs.Forest.{Forest, nil, tree}
 use Rattle.meaning.specs.Pdl.{constraint_list}
 use Rattle.meaning.specs.Convert.{convert, reason_of}
 use Rattle.meaning.specs.Tables.{Table, size, Item, int, row, rows_of, count, first_of, Lent}
-use Rattle.meaning.specs.Walk.{node, number, value_part, text_of, each, constraint_number, constraint_row, parse_constraint_list, parse_field_list}
+use Rattle.meaning.specs.Walk.{node, value_part, text_of, each, constraint_number, constraint_row, parse_constraint_list, parse_field_list}
 use Rattle.grammar.specs.Limits.{Limits, wider}
 use Rattle.spans.specs.declared.Constraint.{Constraint}
 use Rattle.spans.specs.declared.Condition.{Condition}

@@ -56,7 +56,8 @@ module _ (o n : ℕ) where
   desc_inside t l (Group id constraints) h = span_in id h.1.1.0.1.0
 
 -- a group's constraints among its nodes
-pub group_limits : (lo hi o : ℕ) (t : List ℕ) (l : ℕ) (f : FieldDesc) → Limits lo hi (draw_desc o t l f) → Limits lo hi (list_at constraint_list o t (desc_list f))
+pub group_limits : (lo hi o : ℕ) (t : List ℕ) (l : ℕ) (f : FieldDesc) → Limits lo hi (draw_desc o t l f)
+    → Limits lo hi (list_at constraint_list o t (desc_list f))
 group_limits lo hi o t l (Checksum id) h = tt
 group_limits lo hi o t l (Padding size) h = tt
 group_limits lo hi o t l (Size id width) h = tt

@@ -1,4 +1,6 @@
 // The rows of fields and of their constraints: one field, and a list of them as the walk goes over it.
+#![tactic(auto)]
+
 pub mod descs;
 
 ghost use Rattle.std.specs.Prelude.{◌≡◌, ◌-◌, ◌≤◌, length, get_or};

@@ -15,7 +15,7 @@ use meaning::SourceLocation;
 use walk::{Door, Walk};
 
 // The endianness line: where it starts and where it ends.
-#[derive(Drop)]
+#[derive(Clone, Copy)]
 pub struct Line {
     pub start: usize,
     pub end: usize,

@@ -4,6 +4,8 @@
 // and not tried on one chart.
 //
 // The reading of a source into five lent tables.
+#![tactic(auto)]
+
 ghost use Rattle.std.specs.Prelude.{◌≡◌};
 ghost use Rattle.meaning.specs.Walk.{endianness};
 ghost use Rattle.meaning.specs.Reading.{refused, walked, reading, answer};
@@ -22,7 +24,7 @@ mod files;
 
 // What a reading answers: the refusal number, 0 when accepted, with its place and reason; how many rows each table has; the
 // endianness and its place.
-#[derive(Drop)]
+#[derive(Clone, Copy)]
 pub struct Answer {
     pub number: u64,
     pub place: u64,
@@ -32,7 +34,7 @@ pub struct Answer {
 }
 
 // What a source holds: its first refusal of 1 to 4, or the rows that each table needs.
-#[derive(Drop)]
+#[derive(Clone, Copy)]
 struct Survey {
     number: u64,
     place: usize,
@@ -45,7 +47,7 @@ struct Survey {
 }
 
 // A table that is too short: its number, and the rows needed; 0 where none is.
-#[derive(Drop)]
+#[derive(Clone, Copy)]
 struct Short {
     table: u64,
     needed: usize,

@@ -7,7 +7,7 @@ use lib.ListN.{length, drop}
 use Rattle.meaning.specs.Rules.{Rule}
 use Rattle.meaning.specs.Peg.{taken}
 use Rattle.meaning.specs.Forest.{Forest}
-use Rattle.meaning.specs.Tables.{Table, number, row, Lent}
+use Rattle.meaning.specs.Tables.{Table, row, Lent}
 use Rattle.meaning.specs.Walk.{following}
 use Rattle.grammar.specs.Limits.{Limits, draws_limits, limits_left, limits_right}
 use Rattle.grammar.specs.Order.{From, kids_of}

@@ -75,7 +75,8 @@ range_items_lem : (src : List ℕ) (o n : ℕ) (x : TagRange) (w : Forest)
 unfolding parse_enum_range tag_row row_words words_of_tag number_at
 range_items_lem src o n x w = refl
 
-other_items_lem : (src : List ℕ) (o n : ℕ) (x : TagOther) (w : Forest) → parse_enum_other src (node o n (leaf_at Rule.identifier o x.id) w) ≡ other_items src o n x
+other_items_lem : (src : List ℕ) (o n : ℕ) (x : TagOther) (w : Forest)
+    → parse_enum_other src (node o n (leaf_at Rule.identifier o x.id) w) ≡ other_items src o n x
 unfolding parse_enum_other tag_row row_words words_of_tag
 other_items_lem src o n x w = refl
 

@@ -1,4 +1,6 @@
 // The rows of an enum's tags: one value, one range with its values, the default, and the lists of them as the walk goes.
+#![tactic(auto)]
+
 ghost use Rattle.std.specs.Prelude.{◌+◌, ◌≡◌, [], ◌∷◌};
 ghost use Rattle.meaning.specs.Tables.{Table, row};
 ghost use Rattle.walk.specs.State.{lend, placed, Goes};

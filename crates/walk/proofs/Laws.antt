@@ -4,12 +4,9 @@ use native.Mathlib.Omega.{arith}
 use mathlib.Core.Path.{◌≡◌, refl, ap, subst, sym, ◌∙◌}
 use mathlib.Core.List.{List, [], ◌∷◌}
 use mathlib.Core.Bool.{Bool}
-use mathlib.Core.Logic.{⊎_elim}
 use borrow.Author.Tests.{eq-eqb, ne_eqb}
 use lib.ListN.{length, get_or, set, take, drop, length-set}
 use lib.Seq.{get_or-set_same, get_or-set_other}
-use types.Run.{OneOf}
-use denote.Enum.Declared.{tag_of}
 use Rattle.meaning.specs.declared.Match.{Match}
 use Rattle.meaning.specs.Peg.{hit, taken}
 use Rattle.grammar.specs.Matching.{Reads}
@@ -17,7 +14,6 @@ use Rattle.grammar.specs.Steps.{at}
 use Rattle.grammar.specs.Limits.{took_inside}
 use Rattle.meaning.specs.declared.Converted.{Converted}
 use Rattle.meaning.specs.declared.Converted.TheVariants.{Value, Empty, BadDigit, TooLarge}
-use Rattle.meaning.specs.contracts.Converted.{the_type}
 use Rattle.meaning.specs.Convert.{convert, reason_of, value_of}
 use Rattle.spans.specs.declared.Span.{Span}
 use Rattle.spans.specs.declared.Part.{Part}
@@ -40,8 +36,8 @@ use Rattle.walk.specs.Ready.{offset_of}
 use Rattle.walk.specs.Terms.{number_at, unquoted_name, InsidePart, InsideOperand, InsideSize, InsideTarget}
 
 -- ---- integers
-no_value : (r : Converted) → OneOf (1 ∷ 2 ∷ 3 ∷ []) (tag_of the_type r) → value_of r ≡ 0
-no_value (Value v) k = ⊎_elim (λ h. omega arith) (⊎_elim (λ h. omega arith) (λ h. omega arith)) k
+no_value : (r : Converted) → ((v : ℕ) → r ≡ Value v → ⊥) → value_of r ≡ 0
+no_value (Value v) k = absurd (k v refl)
 no_value Empty k = refl
 no_value BadDigit k = refl
 no_value TooLarge k = refl
@@ -50,7 +46,7 @@ part_is : (src : List ℕ) (o n : ℕ) → take (o + n - o) (drop o src) ≡ tak
 part_is src o n = let e : o + n - o ≡ n = omega arith in ap (λ (k : ℕ). take k (drop o src)) e
 
 pub number_bad : (src : List ℕ) (o n : ℕ) (c : Converted) (r : ℕ) → c ≡ convert (take (o + n - o) (drop o src)) → r ≡ reason_of c
-    → OneOf (1 ∷ 2 ∷ 3 ∷ []) (tag_of the_type c) → ◌≡◌ {A = Number} (record { found = 1; place = o; reason = r; value = 0 }) (number_at src o n)
+    → ((v : ℕ) → c ≡ Value v → ⊥) → ◌≡◌ {A = Number} (record { found = 1; place = o; reason = r; value = 0 }) (number_at src o n)
 unfolding number_at
 number_bad src o n c r e q k =
     ap (λ (x : ℕ). record { found = 1; place = o; reason = r; value = x }) (sym (no_value c k))

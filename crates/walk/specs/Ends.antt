@@ -8,7 +8,7 @@ use Rattle.std.proofs.Math.ListN.{drop}
 use Rattle.meaning.specs.declared.Match.{Match}
 use Rattle.meaning.specs.Rules.{Rule, is}
 use Rattle.meaning.specs.Peg.{Peg, seq, star, opt, run, bytewise, hit, taken}
-use Rattle.meaning.specs.Pdl.{text, ◌~◌, repeat, skip, COMMENT}
+use Rattle.meaning.specs.Pdl.{text, ◌~◌, repeat, skip}
 use Rattle.grammar.specs.Matching.{Reads}
 use Rattle.grammar.specs.Hits.{taken_seq, hit_opt}
 use Rattle.grammar.specs.Lists.{repeat_end}

@@ -1,5 +1,5 @@
 -- The next item of a list, where the walk has come to the end of one.
-use Rattle.std.specs.Prelude.{ℕ, ◌+◌, ◌-◌, ◌≤◌, ◌<◌, ◌≡◌, refl, List, true, false, length, drop}
+use Rattle.std.specs.Prelude.{ℕ, ◌+◌, ◌≤◌, ◌<◌, ◌≡◌, refl, List, true, false, length, drop}
 use Rattle.std.proofs.Common.{arith, ap, ap₂, subst, sym, ◌∙◌, drop-drop}
 use Rattle.meaning.specs.declared.Match.{Match}
 use Rattle.meaning.specs.Peg.{Peg, run, bytewise, hit, taken}

@@ -1,4 +1,6 @@
 // The walk's state, and the door through which every row goes into its table. Row making (`rows`) is apart from row writing.
+#![tactic(auto)]
+
 ghost use Rattle.std.specs.Prelude.{◌≡◌, ◌+◌, ◌≤◌, ◌<◌, length, get_or, [], ◌∷◌};
 ghost use Rattle.grammar.specs.Matching.{Reads};
 ghost use Rattle.meaning.specs.Peg.{taken};
@@ -22,7 +24,7 @@ fn comma(s: &[u8]) -> Match
 }
 
 // Behind an item of a list: where it ends, whether a comma follows, and where another item would stand.
-#[derive(Drop)]
+#[derive(Clone, Copy)]
 pub struct Turn {
     pub end: usize,
     pub more: bool,
@@ -44,7 +46,7 @@ pub fn turn_behind(s: &[u8], i: usize, item: Match) -> Turn
 }
 
 // What is done with a row: it is counted, or it is counted and written.
-#[derive(Drop)]
+#[derive(Clone, Copy)]
 pub enum Door {
     Count,
     Write,
@@ -63,7 +65,7 @@ pub const COMMENTS: usize = 4;
 
 // What is done with rows, how many each table has, the first integer that did not convert (its place and its reason, 0 where
 // all did), and the place that the walk has come to, if it writes.
-#[derive(Drop)]
+#[derive(Clone, Copy)]
 pub struct Walk {
     pub door: Door,
     pub counts: [usize; 5],
@@ -73,7 +75,7 @@ pub struct Walk {
 }
 
 // A walk over a list: its state behind the list, and where the last item ends.
-#[derive(Drop)]
+#[derive(Clone, Copy)]
 pub struct Walked {
     pub walk: Walk,
     pub end: usize,
@@ -97,7 +99,7 @@ pub fn nothing(door: Door) -> Walk
 }
 
 // An integer of the source: whether there is one, where it starts, why it does not convert (0: it does), what it says.
-#[derive(Drop)]
+#[derive(Clone, Copy)]
 pub struct Number {
     pub found: u64,
     pub place: usize,
@@ -106,14 +108,14 @@ pub struct Number {
 }
 
 // A name of the source, by offset and length.
-#[derive(Drop)]
+#[derive(Clone, Copy)]
 pub struct Name {
     pub offset: usize,
     pub len: usize,
 }
 
 // The part of a field's row that its description settles.
-#[derive(Drop)]
+#[derive(Clone, Copy)]
 pub struct Described {
     pub kind: u64,
     pub a: Name,

@@ -1,0 +1,14 @@
+-- `put_comment` meets its contract.
+use Rattle.std.proofs.Common.{arith}
+use Rattle.comments.proofs.Rows.{end_ready, row_asks, row_done}
+use Rattle.comments.proofs.put_comment.Goals as goal
+
+pub to-b-requires : goal.to-b-requires
+to-b-requires c = end_ready c.requires c.to-a.ensures
+
+pub put-requires : goal.put-requires
+put-requires c = row_asks c.requires c.to-a.ensures c.to-b.ensures (omega (arith, c.well_formed))
+
+pub returns : goal.returns
+returns c = row_done c.requires c.to-a.ensures c.to-b.ensures c.kind_at.ensures
+    c.comment_row-row.ensures c.put.ensures
