@@ -39,8 +39,8 @@ Within n Table.tags ws = Unit {0}
 Within n Table.constraints ws = Unit {0}
 Within n Table.comments ws = Unit {0}
 
-free : {n : Table → ℕ} → Free (Within n)
-free = record { tags = λ ws. tt; constraints = λ ws. tt; comments = λ ws. tt }
+free : (n : Table → ℕ) → Free (Within n)
+free n = record { tags = λ ws. tt; constraints = λ ws. tt; comments = λ ws. tt }
 
 -- tables of n rows hold the items so far, xs, and ys behind them
 record Room (n : Table → ℕ) (xs ys : List Item) : Type 0 where
@@ -86,9 +86,9 @@ module _ (src : List ℕ) (n : Table → ℕ) where
       let fits : x + m + pick if.found 1 0 ≤ n Table.constraints = omega (arith, h.at Table.constraints, mine, one_row if.found if) in
       every-++
       (every-++
-      (every-++ (every_pick if.found (of_constraint_number free src if))
-      (every-++ (of_numbers free src d.ints) (of_constraints free src d.group)))
-      (every_pick if.found (of_constraint_row free src if)))
+      (every-++ (every_pick if.found (of_constraint_number (free n) src if))
+      (every-++ (of_numbers (free n) src d.ints) (of_constraints (free n) src d.group)))
+      (every_pick if.found (of_constraint_row (free n) src if)))
       (a_row (omega (arith, fits, first_within x m), condition_within if.found x m fits) none)
 
   of_fields : (w : Forest) (xs : List Item) → Room n xs (parse_field_list src xs w) → Every (Within n) (parse_field_list src xs w)
@@ -143,8 +143,8 @@ module _ (src : List ℕ) (n : Table → ℕ) where
       let there : (t : Table) → count t xs + count t cs + count t (ts ++ fs) ≤ n t = λ t. omega (arith, h.at t, mine t) in
       every-++
       (every-++
-      (every-++ (every-++ (of_number free src width) (of_constraints free src header.kids))
-      (every_each Rule.enum_tag (λ q. parse_enum_tag src q) (of_enum_tag free src) tags.kids))
+      (every-++ (every-++ (of_number (free n) src width) (of_constraints (free n) src header.kids))
+      (every_each Rule.enum_tag (λ q. parse_enum_tag src q) (of_enum_tag (free n) src) tags.kids))
       (of_fields w (xs ++ cs) (record { at = λ t. omega (arith, there t, count_append t ts fs, count_append t xs cs) })))
       (a_row
       (a_declaration function.found kind p.start p.len _ _ _ _ id parent width function
@@ -176,7 +176,7 @@ within {src} a =
     let n : Table → ℕ = λ t. count t (items src (whole src)) in
     let x = whole_from a in
     let e = declared_are x.1 in
-    every-++ (of_comments free (sorts.of_comments src (whole src)))
+    every-++ (of_comments (free n) (sorts.of_comments src (whole src)))
     (subst (Every (Within n)) (sym e) (of_toplevel src n (clean x.0) [] (to_core x.1).kinds (subst (Room n []) e (own_room src))))
 
 -- row k of a table

@@ -1,9 +1,6 @@
 pub mod Placement
 pub mod Slots
 pub mod Between
-pub mod BetweenTags
-pub mod BetweenFields
-pub mod BetweenDeclarations
 pub mod Ascending
 pub mod Names
 pub mod Sample

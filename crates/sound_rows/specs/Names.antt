@@ -5,15 +5,14 @@ use Rattle.std.specs.Prelude.{◌≡◌, refl, false, List, [], ◌∷◌, ℕ, 
 use Rattle.std.proofs.Common.{sym, ap, ◌∙◌, arith, le-ltb, length-drop, length-take-le, take-take, drop-drop}
 use Rattle.std.proofs.Math.Seq.{take-nil}
 use Rattle.meaning.specs.Rules.{Rule, order}
-use Rattle.meaning.specs.Tables.{Table, Item, rows_of}
+use Rattle.meaning.specs.Tables.{Table}
 use Rattle.meaning.specs.Rows.{row_kind}
 use Rattle.meaning.specs.Walk.{Part, text_of}
 use Rattle.meaning.specs.Moving.{moving}
-use Rattle.meaning.specs.Reading.{accepted, reading, name_number, name_text}
+use Rattle.meaning.specs.Reading.{name_number, name_text}
 use Rattle.sound_rows.specs.Placement.{Known, Stands}
 use Rattle.sound_rows.specs.Slots.{Made, nothing, named as of_node, quoted}
 use Rattle.sound_rows.specs.Between.{start, name_positions, Names, Named, Laid}
-use Rattle.sound_rows.specs.Ascending.{laid}
 
 -- a name is made of a node of the source, or it is absent
 abbrev pub Name : List ℕ → ℕ → ℕ → Type 0
@@ -23,13 +22,9 @@ abbrev pub Each : (List ℕ → Type 0) → List (List ℕ) → Type 0
 Each P [] = Unit {0}
 Each P (ws ∷ rs) = P ws × Each P rs
 
-laid_named : (P : Known) (t : Table) (lo hi : ℕ) (rs : List (List ℕ)) → Laid P t lo hi rs → Each (Named (Made P) t) rs
+pub laid_named : (P : Known) (t : Table) (lo hi : ℕ) (rs : List (List ℕ)) → Laid P t lo hi rs → Each (Named (Made P) t) rs
 laid_named P t lo hi [] h = tt
 laid_named P t lo hi (ws ∷ rs) h = (h.1.0, laid_named P t (start ws + 1) hi rs h.1.1)
-
--- ---- THE NAMES OF ROWS
-pub named : (src e : List ℕ) (xs : List Item) → reading src ≡ accepted e xs → (t : Table) → Each (Named (Name src) t) (rows_of t xs)
-named src e xs h t = laid_named (Stands src) t 0 (length src) (rows_of t xs) (laid src e xs h t)
 
 -- ---- their texts
 module _ (src : List ℕ) where
@@ -52,12 +47,9 @@ module _ (src : List ℕ) where
   names_within ws [] h = tt
   names_within ws (i ∷ is) h = (name_inside (get_or ws i 0) (get_or ws (i + 1) 0) h.0, names_within ws is h.1)
 
-  each_within : (t : Table) (rs : List (List ℕ)) → Each (Named (Name src) t) rs → Each (Named Within t) rs
+  pub each_within : (t : Table) (rs : List (List ℕ)) → Each (Named (Name src) t) rs → Each (Named Within t) rs
   each_within t [] h = tt
   each_within t (ws ∷ rs) h = (names_within ws (name_positions (moving t (get_or ws row_kind 0))) h.0, each_within t rs h.1)
-
-  pub never_refused : (e : List ℕ) (xs : List Item) → reading src ≡ accepted e xs → (t : Table) → Each (Named Within t) (rows_of t xs)
-  never_refused e xs h t = each_within t (rows_of t xs) (named src e xs h t)
 
   -- a node's name, `name p`, has the node's bytes
   pub name_is : (o : ℕ) (p : Part) → Stands src o p.start p.len → name_text src p.start p.len ≡ text_of src p

@@ -82,6 +82,7 @@ module _ {of : Forest → List Rule} {P Q : Known} where
 -- such a node lies there, and has its bytes
 pub in_range : {of : Forest → List Rule} {P : Known} {lo hi o s l : ℕ} {w : Forest} → Ranged of P lo hi w → In w o s l
     → (s + l ≤ hi) × (bytes_of o ≤ l)
+in_range (bare h) x = elim x [ ]
 in_range (grown f h i j) top = (upward j, f.bytes)
 in_range (grown f h i j) (below x) = let k = in_range i x in (omega (arith, k.0, upward j), k.1)
 in_range (grown f h i j) (beside x) = in_range j x

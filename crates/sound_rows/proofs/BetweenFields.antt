@@ -14,7 +14,7 @@ use Rattle.walk.specs.Steps.{count_append}
 use Rattle.sound_rows.specs.Placement.{Known, Fit, bare, grown, higher, wider, upward}
 use Rattle.sound_rows.specs.Slots.{Nodes, Made, nothing, some_fit, Slot, slot, slot_then, slot_or, found_node}
 use Rattle.sound_rows.specs.Between.{Between, between_none, between-++, between_in, between_last, between_numbers}
-use Rattle.sound_rows.specs.BetweenTags.{constraint_number_between, constraint_row_between, constraints_between}
+use Rattle.sound_rows.proofs.BetweenTags.{constraint_number_between, constraint_row_between, constraints_between}
 use Rattle.standing.specs.Kinds.{rules}
 
 -- ---- items without a field

@@ -16,8 +16,8 @@ use Rattle.declaration_rows.specs.Sorts.{sorted-++, sorted_each, of_number, of_c
 use Rattle.sound_rows.specs.Placement.{Known, Fit, Ranged, bare, grown, upward}
 use Rattle.sound_rows.specs.Slots.{Nodes, Made, quoted, some_fit, slot, slot_then, found_node, nodes_following}
 use Rattle.sound_rows.specs.Between.{Between, between_none, between-++, between_in, between_row, between_last, between_number, between_each}
-use Rattle.sound_rows.specs.BetweenTags.{constraints_between, enum_tag_between}
-use Rattle.sound_rows.specs.BetweenFields.{fields_between}
+use Rattle.sound_rows.proofs.BetweenTags.{constraints_between, enum_tag_between}
+use Rattle.sound_rows.proofs.BetweenFields.{fields_between}
 use Rattle.standing.specs.Names.{names}
 use Rattle.standing.specs.Kinds.{rules}
 

@@ -1,0 +1,5 @@
+pub mod BetweenTags
+pub mod BetweenFields
+pub mod BetweenDeclarations
+pub mod Ascending
+pub mod Names
