@@ -1,3 +1,1 @@
-mod StateWalk
 mod Laws
-mod RecordWalk

@@ -3,7 +3,7 @@
 use Rattle.std.specs.Prelude.{◌≡◌, refl, ℕ, zero, suc, List, [], ◌∷◌, get_or}
 use Rattle.std.proofs.Common.{ap, sym, subst, ◌∙◌}
 use seplogic.Ra.Ura.{Ura}
-use seplogic.Ra.TreeShare.{full_share}
+use base.Fraction.{full_share}
 use mir.Syntax.{Ty, Place, Step as PStep, Local, local, value_local, w64, ty_int, ty_enum, ttnil, place, Opd as Operand, copy}
 use mir.Val.{Val, vint}
 use base.Logic.{SProp, ent, sep, wand, ex, emp, id⊢, via, comm∗, assoc∗, assoc', mono_l, mono_r, wand_i, ex_i}
@@ -167,7 +167,9 @@ behind k j st = place (suc (suc (suc (suc (past k j))))) st
 
 stand_framed : (e₀ e₁ e₂ e₃ : Ty × ℕ) (k : ℕ) (bs : Blocks k) (E : Locals) → Stand (frame e₀ e₁ e₂ e₃ k bs E) 4 k bs
 stand_framed e₀ e₁ e₂ e₃ k bs E =
-    stand_behind e₀ _ 3 k bs (stand_behind e₁ _ 2 k bs (stand_behind e₂ _ 1 k bs (stand_behind e₃ _ 0 k bs (stand k bs E))))
+    stand_behind e₀ (e₁ ∷ e₂ ∷ e₃ ∷ env k bs E) 3 k bs
+    (stand_behind e₁ (e₂ ∷ e₃ ∷ env k bs E) 2 k bs
+    (stand_behind e₂ (e₃ ∷ env k bs E) 1 k bs (stand_behind e₃ (env k bs E) 0 k bs (stand k bs E))))
 
 -- ---- the entry of a context that holds them
 module _ {M : Type 1} (𝓤 : Ura M) where
@@ -185,14 +187,17 @@ module _ {M : Type 1} {𝓤 : Ura M} {𝓛 : Logic 𝓤} {K : Type 0} where
   pub allocs_words : {Γ : List (Item 𝓤)} → K → (k : ℕ) {ls : List Local} {Kt : Env 𝓤 H → Goal 𝓤 H}
       → ((bs : Blocks k) → Seq K 𝓛 (rooms 𝓤 k bs ∷ Γ) (allocs ls (λ E. Kt (env k bs E)))) → Seq K 𝓛 Γ (allocs (before k ls) Kt)
   allocs_words t zero h = nothing t $ h tt
-  allocs_words t (suc k) h = alloc1 t (λ b. allocs_words t k (λ bs. move t (1 ∷ 2 ∷ 0 ∷ []) $ join t $ join t $ h (b, bs)))
+  allocs_words {Γ = Γ} t (suc k) h =
+      alloc1 t (λ b. allocs_words {Γ = ‵ (froom word b zero) ∷ ‵ (fdies word b) ∷ Γ} t k
+      (λ bs. move t (1 ∷ 2 ∷ 0 ∷ []) $ join t $ join t $ h (b, bs)))
 
   pub pass_words : {Γ : List (Item 𝓤)} → K → (n : ℕ) (κs : Lfts n) (k : ℕ) (bs : Blocks k) (x : Passed n κs k) → Fit n κs k x
       → (E : Env 𝓤 H) {g : Goal 𝓤 H} → Step K 𝓛 (cells 𝓤 k bs (words_of n κs k x) ∷ Γ) g (rooms 𝓤 k bs ∷ Γ) (passes (env k bs E) (machine n κs k x) g)
   pass_words t n κs zero bs x f E = pass0 t
-  pass_words t n κs (suc k) bs x f E =
+  pass_words {Γ = Γ} t n κs (suc k) bs x f E =
       step (λ s. split t $ split t $ pass1 t (init t 0 refl (tt, record { fits = f.0.1 })) $ move t (2 ∷ 0 ∷ 1 ∷ []) $
-      pass_words t n κs k bs.1 x.1 f.1 E $ move t (1 ∷ 2 ∷ 0 ∷ []) $ join t $ join t $ s)
+      pass_words {Γ = ‵ (fat full_share word bs.0 zero (vint w64 x.0)) ∷ ‵ (fdies word bs.0) ∷ Γ} t n κs k bs.1 x.1 f.1 E $
+      move t (1 ∷ 2 ∷ 0 ∷ []) $ join t $ join t $ s)
 
 module _ {M : Type 1} {𝓤 : Ura M} {𝓛 : Logic 𝓤} {K : Type 0} {Γ : List (Item 𝓤)} where
   open 𝓛 use {H}

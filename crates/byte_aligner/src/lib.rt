@@ -1,5 +1,7 @@
 // The byte aligner in the Rust's own forms (alignment.rs, `ByteAligner`): the state is lent and changed in place, over tables
 // of words or over a table of chunk records.
+#![tactic(auto)]
+
 ghost use Rattle.std.specs.Prelude.{◌≡◌, true, ◌<◌, length};
 ghost use Rattle.meaning.specs.Alignment.{world, call, add_bitfield, add_bytes, add_dyn_bytes};
 ghost use Rattle.byte_aligner.specs.Answers.{answered, finished, align_at};
@@ -61,7 +63,7 @@ pub fn align(a: &mut Aligner, placed: &[u64], chunks: &[u64]) -> Ended
 
 // A chunk (alignment.rs, `Chunk`): kind (bits 1, bytes 2, dynamic 3), first placed row, count, width, symbol.
 #[repr(C)]
-#[derive(Drop)]
+#[derive(Clone, Copy)]
 pub struct Chunk {
     pub kind: u64,
     pub first: u64,
@@ -71,7 +73,7 @@ pub struct Chunk {
 }
 
 // What a call comes to, but for the table of records: where one is due, it is to be stored there.
-#[derive(Drop)]
+#[derive(Clone, Copy)]
 struct Plan {
     pub number: u64,
     pub state: Aligner,

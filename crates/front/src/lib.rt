@@ -1,4 +1,6 @@
 // The entries for a Rust host: each calls one function of the port, and its statement cites the same definition.
+#![tactic(auto)]
+
 pub mod aligning;
 pub mod feeding;
 pub mod matching;

@@ -1,4 +1,6 @@
 // Feeding a packet, struct or group to the aligner: first every field is judged and nothing is written, then the rows are placed.
+#![tactic(auto)]
+
 ghost use Rattle.std.specs.Prelude.{◌≡◌};
 ghost use Rattle.meaning.specs.Alignment.{fresh, world};
 ghost use Rattle.meaning.specs.Feeding.{feed_fields, feed_number, layout};
@@ -16,7 +18,7 @@ mod judging;
 mod requests;
 
 // What a feeding answers: the refusal number, 0 when accepted, its place, and the counts of placed and chunk rows.
-#[derive(Drop)]
+#[derive(Clone, Copy)]
 pub struct Layout {
     pub number: u64,
     pub place: usize,
@@ -25,7 +27,7 @@ pub struct Layout {
 }
 
 // What a field row asks of the aligner.
-#[derive(Drop)]
+#[derive(Clone, Copy)]
 enum Request {
     Nothing,
     Bits(u64),
@@ -34,7 +36,7 @@ enum Request {
 }
 
 // How the fields were judged: the refusal number and its place.
-#[derive(Drop)]
+#[derive(Clone, Copy)]
 struct Verdict {
     number: u64,
     place: usize,
