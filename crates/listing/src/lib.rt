@@ -1,5 +1,7 @@
 // What the programs list of a source: the rows of its tables, or the layouts of its declarations. A source that is refused has
 // the one line of its refusal in either list.
+#![tactic(auto)]
+
 ghost use Rattle.std.specs.Prelude.{◌+◌, ◌≡◌, length, replicate};
 ghost use Rattle.reading.specs.Outcomes.{outcome};
 ghost use Rattle.listing.specs.Lists.{longest, lines_of, listed, Lists};
@@ -13,7 +15,7 @@ use reading::Answer;
 const LONGEST: usize = 16384;
 
 // What is to be listed.
-#[derive(Drop)]
+#[derive(Clone, Copy)]
 pub enum Wanted {
     Tables,
     Layouts,

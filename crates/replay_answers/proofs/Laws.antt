@@ -1,5 +1,5 @@
 -- The laws of the replay: a line in the list, the head, an entry, the tally and what is written of it.
-use Prim.Native.Nat.{ℕ, suc, ◌+◌, ◌-◌, ◌*◌, ◌≤◌, ◌<◌}
+use Prim.Native.Nat.{ℕ, suc, ◌+◌, ◌-◌, ◌≤◌, ◌<◌}
 use mathlib.Core.Path.{◌≡◌, refl, sym, ap, ◌∙◌}
 use mathlib.Core.List.{List, [], ◌∷◌, ◌++◌}
 use mathlib.Core.Bool.{Bool, true, false, not}
@@ -17,8 +17,8 @@ use Rattle.listing.specs.Lists.{listed}
 use Rattle.listing.specs.Enough.{tables_room}
 use Rattle.replay_answers.specs.declared.entries.Entry.{Entry}
 use Rattle.replay_answers.specs.declared.Tally.{Tally}
-use Rattle.replay_answers.specs.Entries.{Tells, part, over, heading, entry, Stands, Behind, Ends, Ordered, EntryAt}
-use Rattle.replay_answers.specs.Tallies.{Bounds, Answered, Step, same, other, Replayed, here, more, start}
+use Rattle.replay_answers.specs.Entries.{Tells, part, over, heading, entry, Behind, Ends, EntryAt}
+use Rattle.replay_answers.specs.Tallies.{Bounds, Step, same, other, Replayed, here, more, start}
 use Rattle.replay_answers.specs.Verdicts.{ending, tallied, damaged, TallyLine}
 
 -- an answer that is not true: the fact does not hold

@@ -6,7 +6,7 @@ use crate::lines::is_line;
 use lexis::bytes::{Class, run_of};
 
 // An entry: where its source starts and stops, where its lines start and the last one ends, and where the next entry starts.
-#[derive(Drop)]
+#[derive(Clone, Copy)]
 pub struct Entry {
     pub source: usize,
     pub stop: usize,
@@ -16,7 +16,7 @@ pub struct Entry {
 }
 
 // A number, and where it ends.
-#[derive(Drop)]
+#[derive(Clone, Copy)]
 struct Number {
     value: u64,
     end: usize,

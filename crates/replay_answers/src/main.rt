@@ -1,6 +1,8 @@
 // Replays the fixed list of the oracle's answers, which is its standard input: every source is listed, and the lines are
 // compared with the answer byte for byte. Each entry of the list is a line `S n m`, n bytes of source, LF, m bytes of answer,
 // LF; the last line is `Z` and the number of entries.
+#![tactic(auto)]
+
 ghost use Rattle.std.specs.Prelude.{◌+◌, ◌≤◌, ◌<◌, ◌≡◌, length, replicate};
 ghost use Rattle.listing.specs.declared.Wanted.TheVariants.{Tables};
 ghost use Rattle.listing.specs.Lists.{listed};
@@ -18,7 +20,7 @@ mod lines;
 mod verdicts;
 
 // How many answers are the same, how many are not, and how far the list was read.
-#[derive(Drop)]
+#[derive(Clone, Copy)]
 struct Tally {
     passed: u64,
     failed: u64,
