@@ -21,9 +21,9 @@ class Trial(NamedTuple):
 
 
 def listed(root: Path) -> List[str]:
-    """The crates of crates.txt, in its order."""
+    """The crates of crates.txt, in its order: the first word of each line."""
     lines = (line.split("#")[0] for line in (root / "crates.txt").read_text(encoding="utf-8").splitlines())
-    return [line.split(":")[0].strip() for line in lines if ":" in line]
+    return [line.replace(":", " ").split()[0] for line in lines if ":" in line]
 
 
 def written(crate: Path) -> List[Trial]:

@@ -27,7 +27,7 @@ OPTIONAL = {"opt", "repeat", "star", "neg"}
 
 
 class Atom(NamedTuple):
-    """A token, or a bracket with what stands in it, from start to end."""
+    """A token, or a bracket with what stands in it, and the fields that are asked of that, from start to end."""
 
     text: str
     start: int
@@ -98,8 +98,9 @@ def clause(shift: int, part: re.Match) -> Clause:
 
 
 def bound(source: str, one: Clause) -> Set[str]:
-    """The names of a clause's value that its left side binds."""
-    return {word for word in re.findall(r"[^\s(){};,]+", source[one.start : one.end]) if word in one.left}
+    """The names of a clause's value that its left side binds, also where a field is asked of one."""
+    words = {word.split(".")[0] for word in re.findall(r"[^\s(){};,]+", source[one.start : one.end])}
+    return words & one.left
 
 
 def atoms(source: str, start: int, end: int) -> List[Atom]:
@@ -109,13 +110,16 @@ def atoms(source: str, start: int, end: int) -> List[Atom]:
         text = token.group()
         if token.lastgroup == "space":
             continue
+        inside = levels[-1][2]
         if text in CLOSED_BY:
             levels.append((text, token.start(), []))
         elif text in CLOSED_BY.values():
             mark, began, inside = levels.pop()
             levels[-1][2].append(Atom(mark, began, token.end(), inside))
+        elif text[0] == "." and inside and inside[-1].text == "(" and inside[-1].end == token.start():
+            inside[-1] = inside[-1]._replace(end=token.end())
         else:
-            levels[-1][2].append(Atom(text, token.start(), token.end(), []))
+            inside.append(Atom(text, token.start(), token.end(), []))
     return levels[0][2]
 
 

@@ -6,15 +6,19 @@ import re
 import sys
 from pathlib import Path
 
+sys.dont_write_bytecode = True
+
+from choice import listed  # noqa: E402
+
 TOP = Path(__file__).resolve().parent.parent
 REFUSED = re.compile(r"(?P<crate>\w+): refused \(\d+ s\): (?P<folder>must-fail|mutants)/(?P<name>[\w-]+)$")
-ERROR = re.compile(r"\s+\w+/(?P<folder>proofs|specs)/(?P<path>[\w/]+)\.antt:\d+:\d+: error: `(?P<need>[^`]+)`")
-OPEN = re.compile(r"\s+fn (?:\w+::)+(?P<function>\w+): no proof: .*`search` does not close `(?P<need>[^`]+)`")
+ERROR = re.compile(r"\s+(?P<folder>proofs|specs)/(?P<path>[\w/]+)\.antt:\d+:\d+: error: `(?P<need>[^`]+)`")
+OPEN = re.compile(r"\s+fn (?:\w+::)+(?P<function>\w+): no proof: .*`search` did not prove `(?P<need>[^`]+)`")
 KINDS = (
     (r"returns.*", "what `{function}` answers"),
-    (r"(?P<callee>.+)-requires(-\d+)?", "what `{callee}` asks of `{function}`"),
-    (r"(loop|turn|before|again|less|more|holds).*", "what a loop of `{function}` keeps"),
-    (r"(add|sub|mul|index|slice|cast)-.*", "a bound in `{function}`"),
+    (r"(?P<callee>\w+)(-.+)?-requires(-.+)?", "what `{callee}` asks of `{function}`"),
+    (r"(invariant|decreases)-.*|.+-(init|preserved|smaller)(-.+)?", "what a loop of `{function}` keeps"),
+    (r"(overflow|nonzero)_.*|(slice_|offset_)?bounds-.*", "a bound in `{function}`"),
 )
 HEAD = """# Edits and the facts that refuse them
 
@@ -28,7 +32,7 @@ def need_of(function, need):
     for kind, words in KINDS:
         found = re.fullmatch(kind, need)
         if found:
-            return words.format(function=function, callee=found.groupdict().get("callee", "").replace("-", "_"))
+            return words.format(function=function, **found.groupdict())
     return None
 
 
@@ -39,8 +43,9 @@ def fact_of(line):
         return need_of(**unmet.groupdict())
     if not error:
         return line.strip()
-    named = error["folder"] == "proofs" and error["path"].endswith("/Proof") and need_of(error["path"].split("/")[-2], error["need"])
-    return named or f"`{error['need']}` ({error['folder']}/{error['path'].removesuffix('/Proof')})"
+    function = re.fullmatch(r"(?:\w+/)*(\w+)/(Answers|Invariants)", error["path"]) if error["folder"] == "proofs" else None
+    named = function and need_of(function[1], error["need"])
+    return named or f"`{error['need']}` ({error['folder']}/{error['path'].removesuffix('/Answers').removesuffix('/Invariants')})"
 
 
 def done_by(crate, folder, name):
@@ -58,8 +63,7 @@ def main():
             cells = f"`{edit['name']}`", mark, done_by(**edit.groupdict()), fact_of(after)
             rows.setdefault(edit["crate"], []).append(f"| {' | '.join(cells)} |")
     print(HEAD)
-    order = [line.split(":")[0] for line in (TOP / "crates.txt").read_text(encoding="utf-8").split("\n")]
-    for crate in sorted(rows, key=order.index):
+    for crate in sorted(rows, key=listed(TOP).index):
         print(f"## `{crate}`\n\n| edit | | what it tries | first refused |\n|---|---|---|---|", *sorted(rows[crate]), "", sep="\n")
     return 0 if rows else 1
 

@@ -68,6 +68,11 @@ def bodies(found: List[Token]) -> Iterator[List[Token]]:
         i = end + 1
 
 
+def is_clause(found: List[Token], at: int) -> bool:
+    """Whether a clause opens at a place: behind its word, or behind that and the clause's name."""
+    return found[at - 1].text in CLAUSES or found[at - 1].kind == "word" and found[at - 2].text in CLAUSES
+
+
 def body_start(found: List[Token], at: int):
     """Where the body of the function at a place opens: behind its parameters, its result and its clauses."""
     i = at
@@ -75,7 +80,7 @@ def body_start(found: List[Token], at: int):
         text = found[i].text
         if text == ";":
             return None
-        if text == "{" and found[i - 1].text not in CLAUSES:
+        if text == "{" and not is_clause(found, i):
             return i
         i = closing(found, i) + 1 if text in OPENING else i + 1
     return None
