@@ -11,7 +11,7 @@ const USUAL_FOLDER: &str = "../../shared/docs/src/pdl-compiler/src";
 const MODULES: [(&str, &str); 3] =
     [("ast", "ast.rs"), ("parser", "parser.rs"), ("alignment", "backends/common/alignment.rs")];
 
-/// Where `rt staticlib front` leaves the port.
+/// Where `setup/port` leaves the port.
 const PORT_FOLDER: &str = "../target/staticlib";
 
 fn main() {
@@ -39,7 +39,7 @@ fn link_port() {
             println!("cargo::rustc-link-lib=static=front");
         }
         Err(_) => println!(
-            "cargo::error=the port is not there: no {}. Make it with `rt staticlib front`.",
+            "cargo::error=the port is not there: no {}. Make it with `setup/port`.",
             archive.display()
         ),
     }

@@ -1,8 +1,8 @@
 /*
  * The front end of PDL, the packet description language: the C entries of the proved port, for C99 and C++.
  *
- * Link target/staticlib/libfront.a, which `rt staticlib front` makes, on x86-64 Linux. docs/ROWS.md says what the words of a row
- * mean, kind by kind. A test holds this file against the port's sources.
+ * Link target/staticlib/libfront.a, which `setup/port` makes, on x86-64 Linux. docs/ROWS.md says what the words of a row mean,
+ * kind by kind. A test holds this file against the port's sources.
  *
  * - A length counts elements, not bytes: a table of four rows of fields is 4 * PDL_FIELD_WORDS long. A table holds as many rows as
  *   fit whole; words that are left over are never touched.

@@ -1,4 +1,4 @@
-//! Links the proved port, a static library that `rt staticlib front` makes.
+//! Links the proved port, a static library that `setup/port` makes.
 
 use std::path::{Path, PathBuf};
 use std::{env, fs, process};
@@ -28,7 +28,7 @@ fn link(archive: &Path) {
 
 fn complain(archive: &Path, why: &str) -> ! {
     eprintln!("pdl_front: the proved port is not there: {}: {why}.", archive.display());
-    eprintln!("Make it with `rt staticlib front` in the repository of the port,");
+    eprintln!("Make it with `setup/port` in the repository of the port,");
     eprintln!("or let {VARIABLE} name the folder where libfront.a stands.");
     process::exit(1)
 }

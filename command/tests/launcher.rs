@@ -32,13 +32,24 @@ tell() {
 
 const RT: &str = r#"
 [ "$*" != version ] || { echo "kit 1"; exit; }
-[ "$*" = "staticlib front" ] || exit 9
-echo "rt: meaning proved (1 s)"
-echo half >target/staticlib/libfront.a
+[ "$*" = lib ] || exit 9
+proved() {
+    echo "rt: chose --jobs 2 for $1"
+    echo "fn $1::all: proved"
+    echo "logic=proved functions=1 sum=1"
+}
+proved meaning
+mkdir -p out
+echo half >out/libfront.a
 tell rt
-[ ! -e "$CHECKOUT/fail" ] || { echo "rt: front NOT PROVED"; exit 1; }
-echo "rt: front proved (2 s)"
-cat crates/front/src/lib.rt >target/staticlib/libfront.a
+if [ -e "$CHECKOUT/fail" ]; then
+    echo "fn front::all: not proved"
+    echo "statements std: modules loaded=1 checked=0"
+    echo "logic=not-proved"
+    exit 1
+fi
+proved front
+cat src/lib.rt >out/libfront.a
 "#;
 
 /// The command that it makes says what it is made of, and with what it was called.
@@ -71,7 +82,7 @@ impl Checkout {
         {
             it.script(&format!("it/{file}"), &bytes_of(file));
         }
-        it.top.write("it/crates.txt", "meaning:\nfront: meaning io\nother: meaning\n");
+        it.top.write("it/crates.txt", "meaning:\nfront staticlib: meaning io\nother: meaning\n");
         it.top.write("it/crates/front/src/lib.rt", "port 1");
         it.top.write("it/crates/front/must-fail/a.edit", "1");
         it.top.write("it/library/src/lib.rs", "");
@@ -292,12 +303,13 @@ fn the_environment_has_no_part_in_what_is_built() {
 #[test]
 fn changed_sources_are_built_again() {
     let it = Checkout::built();
-    let cases: [(&str, &str, &str, &[&str]); 6] = [
+    let cases: [(&str, &str, &str, &[&str]); 7] = [
         ("command/src/main.rs", "command 2", "command 2 port 1", &["cargo"]),
         ("crates/front/src/lib.rt", "port 2", "command 2 port 2", &["rt", "cargo"]),
         ("crates/front/src/more.rt", "", "command 2 port 2", &["rt", "cargo"]),
         ("library/src/lib.rs", "// more", "command 2 port 2", &["cargo"]),
         ("crates/front/must-fail/a.edit", "2", "command 2 port 2", &[]),
+        ("crates/front/out/more.rt", "", "command 2 port 2", &[]),
         ("command/tests/a.rs", "", "command 2 port 2", &[]),
     ];
     for (file, text, made_of, calls) in cases {
@@ -354,8 +366,9 @@ fn new_times_alone_are_no_change() {
 #[test]
 fn what_is_removed_is_built_again() {
     let it = Checkout::built();
-    let removed: [(&str, &[&str]); 5] = [
+    let removed: [(&str, &[&str]); 6] = [
         ("target/bin", &[]),
+        ("crates/front/out", &[]),
         ("target/command/pdl", &["cargo"]),
         ("target/command", &["cargo"]),
         ("target/command/record", &["cargo"]),
@@ -467,7 +480,9 @@ fn a_build_that_fails_is_tried_again() {
     let it = Checkout::new();
     it.top.write("fail", "");
     let said = it.refused();
-    assert!(said.contains("\nrt: front NOT PROVED\npdl: the port could not be proved;"), "{said}");
+    let wanted =
+        "\nfn front::all: not proved\nlogic=not-proved\npdl: the port could not be proved;";
+    assert!(said.contains(wanted), "{said}");
     assert_eq!(it.calls(), ["rt"]);
     fs::remove_file(it.top.join("fail")).unwrap();
     assert_eq!(it.made_of(&it.run()), "command 1 port 1");

@@ -52,8 +52,10 @@ pub fn constants(text: &str, wanted: &str) -> BTreeMap<String, u64> {
 
 /// The fields of a struct that C may be lent, with their types.
 pub fn fields(text: &str, name: &str) -> Vec<(String, String)> {
-    let head = format!("#[repr(C)]\npub struct {name} {{\n");
-    let (_, rest) = text.split_once(&head).unwrap_or_else(|| panic!("no struct {name} for C"));
+    let head = format!("\npub struct {name} {{\n");
+    let (before, rest) = text.split_once(&head).unwrap_or_else(|| panic!("no struct {name}"));
+    let mut attributes = before.lines().rev().take_while(|line| line.starts_with("#["));
+    assert!(attributes.any(|line| line == "#[repr(C)]"), "the struct {name} is not for C");
     let (inside, _) = rest.split_once('}').expect("a struct ends");
     let field = |line: &str| {
         let (name, kind) = line.trim().strip_prefix("pub ")?.strip_suffix(',')?.split_once(": ")?;
