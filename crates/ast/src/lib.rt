@@ -3,6 +3,7 @@
 
 pub mod names;
 pub mod numbers;
+pub mod tables;
 pub mod words;
 
 ghost use Rattle.std.specs.Prelude.{◌≡◌, length};
@@ -13,15 +14,8 @@ pub fn put_row(t: &mut [u64], k: usize, row: &[u64])
     ensures { t.new ≡ put (length row.now) k row.now t.old }
 {
     let size = row.len();
-    if size == 0 {
-        return;
-    }
-    if k < t.len() / size {
+    if size > 0 && k < t.len() / size {
         let base = k * size;
-        let mut i: usize = 0;
-        while i < size {
-            t[base + i] = row[i];
-            i += 1;
-        }
+        t[base..base + size].copy_from_slice(row);
     }
 }

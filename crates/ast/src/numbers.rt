@@ -1,5 +1,5 @@
-// The numbers of 01 that the code shares: row sizes, table numbers, refusal numbers. The meaning has its own (specs/Tables
-// and Rows); the lists at the end hold the two together.
+// The numbers of 01 that the code shares: row sizes, table numbers, refusal numbers. They are the C interface's own, and so no
+// enum. The meaning has its own (specs/Tables and Rows); the lists at the end hold the two together.
 ghost use Rattle.std.specs.Prelude.{◌≡◌, [], ◌∷◌};
 ghost use Rattle.meaning.specs.Tables.{Table, number, size};
 ghost use Rattle.meaning.specs.Rows.{endianness_size, placed_size, chunk_size};

@@ -1,5 +1,5 @@
-// The positions of words in a row, by the names that the meaning has for them (specs/Rows). The lists at the end hold the two
-// together.
+// The positions of words in a row, by the names that the meaning has for them (specs/Rows). They are the C interface's own, and so
+// no fields of a struct. The lists at the end hold the two together.
 ghost use Rattle.std.specs.Prelude.{◌≡◌, [], ◌∷◌};
 ghost use Rattle.meaning.specs.Rows.{row_kind, start_offset, start_line, start_column, end_offset, end_line, end_column, declaration_id_offset, declaration_id_length, declaration_other_offset, declaration_other_length, declaration_width_flag, declaration_width, declaration_first, declaration_count, declaration_first_constraint, declaration_constraint_count, field_a_offset, field_a_length, field_b_offset, field_b_length, field_c_offset, field_c_length, field_flag_a, field_number_a, field_flag_b, field_number_b, field_first_constraint, field_constraint_count, field_condition, tag_id_offset, tag_id_length, tag_value, tag_range_end, tag_inner, constraint_id_offset, constraint_id_length, constraint_tag_offset, constraint_tag_length, constraint_value, placed_symbol, placed_width, placed_offset, chunk_kind, chunk_first, chunk_count, chunk_width, chunk_symbol};
 

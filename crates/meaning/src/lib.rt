@@ -2,16 +2,37 @@
 // that the definitions and the code share.
 #![tactic(auto)]
 
-ghost use Rattle.std.specs.Prelude.{◌≡◌};
+ghost use Rattle.std.specs.Prelude.{Err, ◌≡◌};
+ghost use Rattle.meaning.specs.Convert.{reason_of};
+ghost use Rattle.meaning.specs.Peg.{hit, taken};
 ghost use Rattle.meaning.specs.Places.{location};
 ghost use Rattle.meaning.specs.Alignment.{max_chunk_width, fresh};
 
 // What a matcher answers: how far a try failed, plus 1 (0: none did), where it missed; how much it took, and the same mark,
-// where it matched.
+// where it matched. It is no Result: a miss is no error that `?` could hand up, since its mark is joined with that of the next try.
 #[derive(Clone, Copy)]
 pub enum Match {
     Missed(usize),
     Took(usize, usize),
+}
+
+impl Match {
+    // Whether it took.
+    pub fn is_hit(self) -> bool
+        ensures { result ≡ hit self }
+    {
+        matches!(self, Match::Took(_, _))
+    }
+
+    // How much it took; 0, where it missed.
+    pub fn taken(self) -> usize
+        ensures { result ≡ taken self }
+    {
+        match self {
+            Match::Missed(_) => 0,
+            Match::Took(len, _) => len,
+        }
+    }
 }
 
 // A place in a source: offset, line and column, from zero, in bytes (ast.rs).
@@ -28,37 +49,44 @@ impl SourceLocation {
     pub fn new(offset: usize, starts: &[usize]) -> SourceLocation
         ensures { result ≡ location offset starts.now }
     {
-        let mut line: usize = 0;
-        let mut column: usize = offset;
-        let mut i: usize = 0;
-        while i < starts.len() {
-            let start = starts[i];
-            if offset < start {
-                return SourceLocation {
-                    offset,
-                    line,
-                    column,
-                };
-            }
-            line = i;
-            column = offset - start;
-            i += 1;
-        }
-        SourceLocation {
+        let mut place = SourceLocation {
             offset,
-            line,
-            column,
+            line: 0,
+            column: offset,
+        };
+        for (line, start) in starts.iter().enumerate() {
+            if offset < *start {
+                break;
+            }
+            place = SourceLocation {
+                offset,
+                line,
+                column: offset - *start,
+            };
         }
+        place
     }
 }
 
-// What the converter answers (01, 'Blanks and literals').
-#[derive(Clone, Copy)]
-pub enum Converted {
-    Value(u64),
+// Why a text does not convert to a number (01, 'Blanks and literals').
+#[derive(Clone, Copy, PartialEq, Eq, Debug)]
+pub enum ConversionError {
     Empty,
     BadDigit,
     TooLarge,
+}
+
+impl ConversionError {
+    // Its number (01, 'Integers'); 0 is that of a text that converts.
+    pub fn reason(self) -> u64
+        ensures { result ≡ reason_of (Err self) }
+    {
+        match self {
+            ConversionError::Empty => 1,
+            ConversionError::BadDigit => 2,
+            ConversionError::TooLarge => 3,
+        }
+    }
 }
 
 // The aligner's state (01, 'Aligner'): rows placed, chunk rows, the first staged placed row, the staged width.

@@ -4,102 +4,75 @@ use mathlib.Core.Path.{◌≡◌, refl, ap, sym, ◌∙◌}
 use mathlib.Core.List.{List, [], ◌∷◌}
 use mathlib.Core.Bool.{Bool, true, false}
 use native.Mathlib.Omega.{arith}
-use borrow.Author.Tests.{le-leb}
-use lib.ListN.{length, get_or, drop, replicate, length-drop, drop_of_length-le}
-use lib.Seq.{drop-drop}
+use borrow.Author.Tests.{lt-leb}
+use lib.ListN.{length, get_or, take, drop, replicate, length-drop}
+use lib.Seq.{drop-drop, take-length}
 use lib.Dec.{leb}
 use Rattle.meaning.specs.Choice.{pick, both}
-use Rattle.meaning.specs.Utf8.{Octet, ◌to◌, tail, holds, has, forms, character, valid}
-use Rattle.text.specs.ChoiceLaws.{both_yes}
-use Rattle.text.specs.Utf8Laws.{octets, holds_under, has_step, has_end, has_fits, ascends, top, by_form, by_none, character_fits, character_none, valid_step, valid_stop, valid_fits}
+use Rattle.meaning.specs.Utf8.{Octet, tail, holds, has, forms, character, valid}
+use Rattle.std.specs.Prelude.{◌&&◌, Option, Some, None, SomeIff}
+use Rattle.std.specs.List.{list_all}
+use Rattle.text.specs.ChoiceLaws.{both_false}
+use Rattle.text.specs.Utf8Laws.{ascends, top, by_form, by_none, character_fits, character_none, valid_step, valid_stop}
 
--- ---- one octet at i
-module _ (least most : ℕ) (s : List ℕ) (i : ℕ) where
-  pub octet_end : length s ≤ i → false ≡ has (octets least most 0) (drop i s)
-  octet_end h = sym (has_end (least to most) [] s i h)
+-- what stands from i on, as the code cuts it
+rest_all : (i : ℕ) (s : List ℕ) → take (length s - i) (drop i s) ≡ drop i s
+rest_all i s = rw (← length-drop i s) (take-length (drop i s))
 
-  pub octet_under : i < length s → get_or s i 0 < least → false ≡ has (octets least most 0) (drop i s)
-  octet_under h k = sym (has_step (least to most) [] s i h ∙ rw (holds_under (least to most) (get_or s i 0) k))
+-- ---- the tails at the front
+both_and : (b c : Bool) → (b && c) ≡ both b c
+both_and true c = refl
+both_and false c = refl
 
-  pub octet_upto : i < length s → least ≤ get_or s i 0 → leb (get_or s i 0) most ≡ has (octets least most 0) (drop i s)
-  octet_upto h k = sym (has_step (least to most) [] s i h ∙ rw (le-leb _ _ k) (both_yes (leb (get_or s i 0) most)))
+pub tails_all : (n : ℕ) (s : List ℕ) → n ≤ length s → list_all (holds tail) (take n s) ≡ has (replicate n tail) s
+tails_all zero s h = refl
+tails_all (suc n) [] h = absurd (omega arith)
+tails_all (suc n) (x ∷ s) h = both_and (holds tail x) _ ∙ ap (both (holds tail x)) (tails_all n s (omega arith))
 
-  pub octet_inside : (g : Bool) → g ≡ has (octets least most 0) (drop i s) → g ≡ true → i < length s
-  octet_inside g e k = omega (arith, has_fits (octets least most 0) (drop i s) (sym e ∙ k), length-drop i s)
+pub tails_short : (n : ℕ) (s : List ℕ) → length s < n → leb n (length s) ≡ has (replicate n tail) s
+tails_short n s h = lt-leb n (length s) h ∙ sym (none n s h)
+  where
+    none : (n : ℕ) (s : List ℕ) → length s < n → has (replicate n tail) s ≡ false
+    none zero s h = absurd (omega arith)
+    none (suc n) [] h = refl
+    none (suc n) (x ∷ s) h = rw (none n s (omega arith)) (both_false (holds tail x))
 
--- ---- octet after octet, with what the code found of the first
-module _ (r : Octet) (rs : List Octet) (s : List ℕ) (j : ℕ) (g : Bool) (e : g ≡ has (r ∷ []) (drop j s)) where
-  first_of_lem : (t : List ℕ) → has (r ∷ rs) t ≡ both (has (r ∷ []) t) (has rs (drop 1 t))
-  first_of_lem [] = refl
-  first_of_lem (x ∷ t) = rw (both_yes (holds r x))
+-- ---- the character at the front of s
+pub character_end : (s : List ℕ) → length s ≤ 0 → 0 < character s → ⊥
+character_end [] h l = omega (arith, character_none)
+character_end (x ∷ s) h l = omega arith
 
-  octet_missed : g ≡ false → has (r ∷ rs) (drop j s) ≡ false
-  octet_missed k = first_of_lem (drop j s) ∙ rw (sym e ∙ k)
+-- of the length c of a character, whose form is told by b
+either_way : (b : Bool) (n c : ℕ) → c ≡ pick b (suc n) 0 → (found : Option ℕ) → SomeIff found (b ≡ true) (suc n) → SomeIff found (0 < c) c
+either_way true n c e None h = absurd (h refl)
+either_way false n c e None h = λ l. omega (arith, e)
+either_way b n c e (Some m) h = let q : c ≡ suc n = rw h.0 at e in (omega (arith, q), h.1 ∙ sym q)
 
-  octet_took : g ≡ true → has (r ∷ rs) (drop j s) ≡ has rs (drop (j + 1) s)
-  octet_took k = first_of_lem (drop j s) ∙ rw (sym e ∙ k, drop-drop 1 j s)
+module _ (s : List ℕ) (h : 0 < length s) where
+  -- the first byte begins the form k, and this was found of the octets after it
+  pub character_formed : (k : ℕ) (r : Octet) (rs : List Octet) (fs : List (List Octet)) → drop k forms ≡ (r ∷ rs) ∷ fs
+      → ascends (r.most + 1) fs ≡ true → top k 0 forms ≤ get_or s 0 0 → r.least ≤ get_or s 0 0 → get_or s 0 0 ≤ r.most
+      → (found : Option ℕ) → SomeIff found (has rs (take (length s - 1) (drop 1 s)) ≡ true) (length (r ∷ rs)) → SomeIff found (0 < character s) (character s)
+  character_formed k r rs fs d a t l m found q =
+      either_way _ (length rs) (character s) (by_form s 0 h k r rs fs d a t l m) found (rw (rest_all 1 s) at q)
 
--- ---- the tails that are left after k of n, from i + 2 on; m is the length of the whole
-module _ (s : List ℕ) (i n m : ℕ) where
-  abbrev pub left : ℕ → ℕ
-  left k = pick (has (replicate (n - k) tail) (drop (i + 2 + k) s)) m 0
-
-  one_less : (k : ℕ) → k < n → n - k ≡ suc (n - (k + 1))
-  one_less k h = omega arith
-
-  pub tails_start : (least most : ℕ) (g : Bool) → g ≡ has (octets least most 0) (drop (i + 1) s) → g ≡ true
-      → pick (has (octets least most n) (drop (i + 1) s)) m 0 ≡ left 0
-  tails_start least most g e k =
-      let a : i + 1 + 1 ≡ i + 2 + 0 = omega arith in
-      let b : n ≡ n - 0 = omega arith in
-      rw (octet_took (least to most) (replicate n tail) s (i + 1) g e k, a)
-      (ap (λ x. pick (has (replicate x tail) (drop (i + 2 + 0) s)) m 0) b)
-
-  pub tails_short : (least most : ℕ) (g : Bool) → g ≡ has (octets least most 0) (drop (i + 1) s) → g ≡ false
-      → 0 ≡ pick (has (octets least most n) (drop (i + 1) s)) m 0
-  tails_short least most g e k = sym (ap (λ x. pick x m 0) (octet_missed (least to most) (replicate n tail) s (i + 1) g e k))
-
-  pub tails_more : (k : ℕ) (g : Bool) → k < n → g ≡ has (octets 0x80 0xBF 0) (drop (i + 2 + k) s) → g ≡ true → left k ≡ left (k + 1)
-  tails_more k g h e q =
-      let a : i + 2 + k + 1 ≡ i + 2 + (k + 1) = omega arith in
-      rw (one_less k h, octet_took tail (replicate (n - (k + 1)) tail) s (i + 2 + k) g e q, a)
-
-  pub tails_missed : (k : ℕ) (g : Bool) → k < n → g ≡ has (octets 0x80 0xBF 0) (drop (i + 2 + k) s) → g ≡ false → left k ≡ 0
-  tails_missed k g h e q =
-      rw (one_less k h, octet_missed tail (replicate (n - (k + 1)) tail) s (i + 2 + k) g e q)
-
-  pub tails_end : (k : ℕ) → n ≤ k → left k ≡ m
-  tails_end k h = let a : n - k ≡ 0 = omega arith in rw a
-
--- ---- the character at i
-pub character_end : (s : List ℕ) (i : ℕ) → length s ≤ i → 0 ≡ character (drop i s)
-character_end s i h = rw (drop_of_length-le s h) (sym character_none)
-
-pub character_low : (s : List ℕ) (i : ℕ) → i < length s → get_or s i 0 < 128 → 1 ≡ character (drop i s)
-character_low s i h k = sym (by_form s i h 0 _ _ _ refl refl (omega arith) (omega arith) (omega arith))
-
--- the character at i, whose first byte is b
-module _ (s : List ℕ) (i b : ℕ) (h : i < length s) (e : b ≡ get_or s i 0) where
-  -- b begins the form k, and the code has looked at the octets after it
-  pub wide_form : (k : ℕ) (r : Octet) (rs : List Octet) (fs : List (List Octet)) → drop k forms ≡ (r ∷ rs) ∷ fs
-      → ascends (r.most + 1) fs ≡ true → top k 0 forms ≤ b → r.least ≤ b → b ≤ r.most
-      → (n : ℕ) → n ≡ pick (has rs (drop (i + 1) s)) (length (r ∷ rs)) 0 → n ≡ character (drop i s)
-  wide_form k r rs fs d a t l m n q = q ∙ sym (by_form s i h k r rs fs d a (rw e at t) (rw e at l) (rw e at m))
-
-  -- b stands before the form k and past the one before it, or past all forms
-  pub wide_none : (k m : ℕ) → ascends m (drop k forms) ≡ true → top k 0 forms ≤ b → b < m → 0 ≡ character (drop i s)
-  wide_none k m a t l = sym (by_none s i h k m a (rw e at t) (rw e at l))
+  -- it stands before the form k and past the one before it, or past all forms
+  pub character_between : (k m : ℕ) → ascends m (drop k forms) ≡ true → top k 0 forms ≤ get_or s 0 0 → get_or s 0 0 < m → 0 < character s → ⊥
+  character_between k m a t l z = omega (arith, by_none s 0 h k m a t l)
 
 -- ---- the valid prefix, one character on
-pub valid_turn : (s : List ℕ) (i n : ℕ) → n ≡ character (drop i s) → (n ≡ 0 → ⊥) → valid s ≡ i + valid (drop i s)
-    → (i + n ≤ length s) × (valid s ≡ i + n + valid (drop (i + n) s))
-valid_turn s i zero e z q = absurd (z refl)
-valid_turn s i (suc n) e z q =
-    let v : valid (drop i s) ≡ suc n + valid (drop (i + suc n) s) = valid_step (drop i s) n (sym e) ∙ rw (drop-drop (suc n) i s) in
-    (omega (arith, character_fits (drop i s), length-drop i s), omega arith)
+not_positive : (n : ℕ) → (0 < n → ⊥) → n ≡ 0
+not_positive zero f = refl
+not_positive (suc n) f = absurd (f (omega arith))
 
-pub valid_none : (s : List ℕ) (i n : ℕ) → n ≡ character (drop i s) → n ≡ 0 → valid s ≡ i + valid (drop i s) → i ≡ valid s
-valid_none s i n e z q = omega (arith, valid_stop (drop i s) (sym e ∙ z))
+module _ (s : List ℕ) (i : ℕ) (found : Option ℕ) (e : let c = character (take (length s - i) (drop i s)) in SomeIff found (0 < c) c)
+    (q : valid s ≡ i + valid (drop i s)) where
+  pub valid_turn : (n : ℕ) → found ≡ Some n → (0 < n) × ((i + n ≤ length s) × (valid s ≡ i + n + valid (drop (i + n) s)))
+  valid_turn zero z = let p = rw (z, rest_all i s) at e in absurd (omega (arith, p.0, p.1))
+  valid_turn (suc n) z =
+      let p = rw (z, rest_all i s) at e in
+      let v : valid (drop i s) ≡ suc n + valid (drop (i + suc n) s) = valid_step (drop i s) n (sym p.1) ∙ rw (drop-drop (suc n) i s) in
+      (omega arith, (omega (arith, p.1, character_fits (drop i s), length-drop i s), omega arith))
 
-pub valid_end : (s : List ℕ) (i : ℕ) → length s ≤ i → valid s ≡ i + valid (drop i s) → i ≡ valid s
-valid_end s i h q = omega (arith, valid_fits (drop i s), length-drop i s)
+  pub valid_none : found ≡ None → i ≡ valid s
+  valid_none z = let p = rw (z, rest_all i s) at e in omega (arith, valid_stop (drop i s) (not_positive _ p))

@@ -1,9 +1,9 @@
 -- Laws of the converter: what each kind of text converts to, and which texts have reason 1.
-use Rattle.std.specs.Prelude.{ℕ, ◌+◌, ◌*◌, ◌^◌, ◌≤◌, ◌<◌, ◌≡◌, refl, List, [], ◌∷◌, Bool, true, false, ◌⊎◌, ltb, leb, eqb}
+use Rattle.std.specs.Prelude.{ℕ, ◌+◌, ◌*◌, ◌^◌, ◌≤◌, ◌<◌, ◌≡◌, refl, List, [], ◌∷◌, Bool, true, false, ◌⊎◌, ltb, leb, eqb, Result, Ok, Err}
 use Rattle.std.proofs.Common.{inl, inr, arith, ne_eqb, eqb-true}
 use Rattle.std.proofs.lemmas.Bool.{lt-leb}
-use Rattle.meaning.specs.declared.Converted.{Converted}
-use Rattle.meaning.specs.declared.Converted.TheVariants.{Value, Empty, BadDigit, TooLarge}
+use Rattle.meaning.specs.declared.ConversionError.{ConversionError}
+use Rattle.meaning.specs.declared.ConversionError.TheVariants.{Empty, BadDigit, TooLarge}
 use Rattle.meaning.specs.Choice.{pick, both}
 use Rattle.meaning.specs.Convert.{digit_of, digits, some, radix, convert, reason_of}
 use Rattle.text.specs.ChoiceLaws.{both_is, both_false}
@@ -17,8 +17,8 @@ unfoldable pub number : ℕ → List ℕ → ℕ → ℕ
 number base [] acc = acc
 number base (b ∷ bs) acc = number base bs (acc * base + digit_of b)
 
-abbrev pub settled : ℕ → Converted
-settled n = pick (ltb n (2 ^ 64)) (Value n) TooLarge
+abbrev pub settled : ℕ → Result ℕ ConversionError
+settled n = pick (ltb n (2 ^ 64)) (Ok n) (Err TooLarge)
 
 digits_good : (base : ℕ) (bs : List ℕ) (acc : ℕ) → Digits base bs → digits base bs acc ≡ settled (number base bs acc)
 unfolding digits Digits number
@@ -45,31 +45,32 @@ pub convert_hex : (b : ℕ) (bs : List ℕ) → Digits 16 (b ∷ bs) → convert
 convert_hex b bs h = radix_good 16 b bs (omega arith) h
 
 -- ---- `0X` is no prefix; a plus sign alone is a bad digit; only nothing is empty
-convert_upper : (s : List ℕ) → convert (48 ∷ 88 ∷ s) ≡ BadDigit
+convert_upper : (s : List ℕ) → convert (48 ∷ 88 ∷ s) ≡ Err BadDigit
 unfolding digits
 convert_upper s = refl
 
-convert_plus : convert (43 ∷ []) ≡ BadDigit
+convert_plus : convert (43 ∷ []) ≡ Err BadDigit
 convert_plus = refl
 
-convert_prefix_plus : convert (48 ∷ 120 ∷ 43 ∷ []) ≡ BadDigit
+convert_prefix_plus : convert (48 ∷ 120 ∷ 43 ∷ []) ≡ Err BadDigit
 convert_prefix_plus = refl
 
-convert_nothing : convert [] ≡ Empty
+convert_nothing : convert [] ≡ Err Empty
 convert_nothing = refl
 
-convert_prefix : convert (48 ∷ 120 ∷ []) ≡ Empty
+convert_prefix : convert (48 ∷ 120 ∷ []) ≡ Err Empty
 convert_prefix = refl
 
-full_pick : (b : Bool) (c d : Converted) → (reason_of c ≡ 1 → ⊥) → (reason_of d ≡ 1 → ⊥) → reason_of (pick b c d) ≡ 1 → ⊥
+full_pick : (b : Bool) (c d : Result ℕ ConversionError) → (reason_of c ≡ 1 → ⊥) → (reason_of d ≡ 1 → ⊥) → reason_of (pick b c d) ≡ 1 → ⊥
 full_pick true c d f g = f
 full_pick false c d f g = g
 
 digits_full : (base : ℕ) (bs : List ℕ) (acc : ℕ) → reason_of (digits base bs acc) ≡ 1 → ⊥
 unfolding digits
-digits_full base [] acc = full_pick (ltb acc (2 ^ 64)) (Value acc) TooLarge (λ e. omega arith) (λ e. omega arith)
+digits_full base [] acc = full_pick (ltb acc (2 ^ 64)) (Ok acc) (Err TooLarge) (λ e. omega arith) (λ e. omega arith)
 digits_full base (b ∷ bs) acc =
-    full_pick (leb base (digit_of b)) BadDigit (digits base bs (acc * base + digit_of b)) (λ e. omega arith) (digits_full base bs (acc * base + digit_of b))
+    full_pick (leb base (digit_of b)) (Err BadDigit) (digits base bs (acc * base + digit_of b)) (λ e. omega arith)
+    (digits_full base bs (acc * base + digit_of b))
 
 some_full : (base : ℕ) (bs : List ℕ) → reason_of (some base bs) ≡ 1 → ⊥
 some_full base [] e = omega arith
@@ -78,7 +79,7 @@ some_full base (b ∷ bs) e = digits_full base (b ∷ bs) 0 e
 radix_full : (base b : ℕ) (bs : List ℕ) → reason_of (radix base (b ∷ bs)) ≡ 1 → ⊥
 radix_full base b bs = full_pick (eqb b 43) (some base bs) (digits base (b ∷ bs) 0) (some_full base bs) (digits_full base (b ∷ bs) 0)
 
-prefix_empty : (x : Bool) (s : List ℕ) (d : Converted) → (reason_of d ≡ 1 → ⊥) → reason_of (pick x (radix 16 s) d) ≡ 1 → (x ≡ true) × (s ≡ [])
+prefix_empty : (x : Bool) (s : List ℕ) (d : Result ℕ ConversionError) → (reason_of d ≡ 1 → ⊥) → reason_of (pick x (radix 16 s) d) ≡ 1 → (x ≡ true) × (s ≡ [])
 prefix_empty true [] d f e = (refl, refl)
 prefix_empty true (b ∷ s) d f e = absurd (radix_full 16 b s e)
 prefix_empty false s d f e = absurd (f e)

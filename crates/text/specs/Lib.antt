@@ -3,3 +3,4 @@ pub mod PlaceLaws
 pub mod Utf8Laws
 pub mod Utf8Longest
 pub mod ConvertLaws
+pub mod Fitting

@@ -1,126 +1,70 @@
 // The bytes of a source: the UTF-8 test, places carried forward, and the converter of integers.
 #![tactic(auto)]
 
-ghost use Rattle.std.specs.Prelude.{◌≡◌, ◌+◌, ◌^◌, ◌≤◌, ◌<◌, length, get_or, drop};
-ghost use Rattle.meaning.specs.Choice.{pick};
-ghost use Rattle.meaning.specs.Utf8.{has, character, valid};
+ghost use Rattle.std.specs.Prelude.{◌≡◌, ◌+◌, ◌*◌, ◌≤◌, ◌<◌, true, length, drop, replicate, SomeIff};
+ghost use Rattle.meaning.specs.Utf8.{tail, has, character, valid};
 ghost use Rattle.meaning.specs.Places.{place_at};
 ghost use Rattle.meaning.specs.Convert.{digit_of, digits, radix, convert, reason_of, value_of};
+ghost use Rattle.text.specs.Fitting.{in_range, reached};
 ghost use Rattle.text.specs.Utf8Laws.{octets};
-ghost use Rattle.text.specs.PlaceLaws.{LineLength};
 
-use meaning::{Converted, SourceLocation};
+use meaning::{ConversionError, SourceLocation};
 
-// Whether a byte stands at i, from least to most.
-fn octet(s: &[u8], i: usize, least: u8, most: u8) -> bool
-    ensures { result ≡ has (octets least most 0) (drop i s.now) }
+// Whether n tails stand at the front.
+fn has_tails(s: &[u8], n: usize) -> bool
+    ensures { result ≡ has (replicate n tail) s.now }
 {
-    if s.len() <= i {
-        return false;
-    }
-    let b = s[i];
-    if b < least {
-        return false;
-    }
-    b <= most
+    n <= s.len() && s[..n].iter().all(|b| matches!(b, 0x80..=0xBF))
 }
 
-// How long the character at i is, if its first byte wants one from least to most after it, and then n tails; else 0.
-fn followed(s: &[u8], i: usize, n: usize, least: u8, most: u8) -> usize
-    requires { (i < length s.now) × (n ≤ 2) }
-    ensures { result ≡ pick (has (octets least most n) (drop (i + 1) s.now)) (n + 2) 0 }
+// Whether a byte from least to most stands at the front, and then n tails.
+fn has_octets(s: &[u8], least: u8, most: u8, n: usize) -> bool
+    ensures { result ≡ has (octets least most n) s.now }
 {
-    let second = octet(s, i + 1, least, most);
-    if second {} else {
-        return 0;
+    match s {
+        [first, rest @ ..] => least <= *first && *first <= most && has_tails(rest, n),
+        [] => false,
     }
-    let mut k: usize = 0;
-    while k < n {
-        let good = octet(s, i + 2 + k, 0x80, 0xBF);
-        if good {} else {
-            return 0;
-        }
-        k += 1;
-    }
-    n + 2
 }
 
-// The character at i, whose first byte b is above 0x7F: what may follow goes by the table of RFC 3629.
-fn wide_at(s: &[u8], i: usize, b: u8) -> usize
-    requires { (i < length s.now) × ((b ≡ get_or s.now i 0) × (0x7F < b)) }
-    ensures { result ≡ character (drop i s.now) }
+// How long a character is behind whose first byte stands one from least to most, and then n tails.
+fn followed(rest: &[u8], least: u8, most: u8, n: usize) -> Option<usize>
+    requires { n ≤ 2 }
+    ensures { SomeIff result (has (octets least most n) rest.now ≡ true) (n + 2) }
 {
-    if b < 0xC2 {
-        return 0;
-    }
-    if b < 0xE0 {
-        return followed(s, i, 0, 0x80, 0xBF);
-    }
-    if b < 0xE1 {
-        return followed(s, i, 1, 0xA0, 0xBF);
-    }
-    if b < 0xED {
-        return followed(s, i, 1, 0x80, 0xBF);
-    }
-    if b < 0xEE {
-        return followed(s, i, 1, 0x80, 0x9F);
-    }
-    if b < 0xF0 {
-        return followed(s, i, 1, 0x80, 0xBF);
-    }
-    if b < 0xF1 {
-        return followed(s, i, 2, 0x90, 0xBF);
-    }
-    if b < 0xF4 {
-        return followed(s, i, 2, 0x80, 0xBF);
-    }
-    if b < 0xF5 {
-        return followed(s, i, 2, 0x80, 0x8F);
-    }
-    0
+    has_octets(rest, least, most, n).then_some(n + 2)
 }
 
-// How long the character at i is; 0, if there is none.
-fn character_at(s: &[u8], i: usize) -> usize
-    ensures { result ≡ character (drop i s.now) }
+// How long the character at the front is, if there is one. What may follow its first byte goes by the table of RFC 3629.
+fn character(s: &[u8]) -> Option<usize>
+    ensures { SomeIff result (0 < character s.now) (character s.now) }
 {
-    if s.len() <= i {
-        return 0;
+    let [first, rest @ ..] = s else {
+        return None;
+    };
+    match *first {
+        0x00..=0x7F => Some(1),
+        0xC2..=0xDF => followed(rest, 0x80, 0xBF, 0),
+        0xE0 => followed(rest, 0xA0, 0xBF, 1),
+        0xE1..=0xEC => followed(rest, 0x80, 0xBF, 1),
+        0xED => followed(rest, 0x80, 0x9F, 1),
+        0xEE..=0xEF => followed(rest, 0x80, 0xBF, 1),
+        0xF0 => followed(rest, 0x90, 0xBF, 2),
+        0xF1..=0xF3 => followed(rest, 0x80, 0xBF, 2),
+        0xF4 => followed(rest, 0x80, 0x8F, 2),
+        _ => None,
     }
-    let b = s[i];
-    if b < 128 {
-        return 1;
-    }
-    wide_at(s, i, b)
 }
 
 // The length of the longest prefix that is UTF-8.
 pub fn valid_prefix(s: &[u8]) -> usize
     ensures { result ≡ valid s.now }
 {
-    let mut i: usize = 0;
-    while i < s.len() {
-        let n = character_at(s, i);
-        if n == 0 {
-            return i;
-        }
-        i += n;
+    let mut len = 0;
+    while let Some(n) = character(&s[len..]) {
+        len += n;
     }
-    i
-}
-
-// How many bytes from the front are no LF.
-fn line_length(s: &[u8]) -> usize
-    ensures { LineLength s.now result }
-{
-    let mut i: usize = 0;
-    while i < s.len() {
-        if s[i] == 10 {
-            return i;
-        }
-        i += 1;
-    }
-    i
+    len
 }
 
 // The place p, moved forward to the offset `to`: a line more for each LF on the way.
@@ -128,140 +72,89 @@ pub fn move_to(s: &[u8], p: SourceLocation, to: usize) -> SourceLocation
     requires { (p ≡ place_at s.now p.offset) × ((p.offset ≤ to) × (to ≤ length s.now)) }
     ensures { result ≡ place_at s.now to }
 {
-    let mut line: usize = p.line;
-    let mut column: usize = p.column;
-    let mut i: usize = p.offset;
-    loop {
-        let n = line_length(&s[i..to]);
-        if i + n == to {
-            return SourceLocation {
-                offset: to,
-                line,
-                column: column + n,
-            };
+    let mut line = p.line;
+    let mut column = p.column;
+    for b in &s[p.offset..to] {
+        if *b == b'\n' {
+            line += 1;
+            column = 0;
+        } else {
+            column += 1;
         }
-        line += 1;
-        column = 0;
-        i += n + 1;
+    }
+    SourceLocation {
+        offset: to,
+        line,
+        column,
     }
 }
 
-// A digit's value, as char::to_digit; 99 for any other byte.
-fn to_digit(b: u8) -> u64
-    ensures { result ≡ digit_of b }
+// A digit's value, if it is one in the base, as Rust's char::to_digit.
+// Three functions ask this of a base, as to_digit does; a type of its own would have to be asked the same to be made.
+fn to_digit(b: u8, base: u32) -> Option<u64>
+    requires { (2 ≤ base) × (base ≤ 36) }
+    ensures { SomeIff result (digit_of b < base) (digit_of b) }
 {
-    let d = b as u64;
-    if d < 48 {
-        return 99;
-    }
-    if d <= 57 {
-        return d - 48;
-    }
-    if d < 65 {
-        return 99;
-    }
-    if d <= 90 {
-        return d - 55;
-    }
-    if d < 97 {
-        return 99;
-    }
-    if d <= 122 {
-        return d - 87;
-    }
-    99
+    char::from(b).to_digit(base).map(u64::from)
 }
 
-// What the digits from `from` on make of a number that is too large already.
-fn beyond(s: &[u8], from: usize, base: u64) -> Converted
+// The number with one digit more behind it; none, once it is too large.
+fn add_digit(number: Option<u64>, base: u32, d: u64) -> Option<u64>
     requires { 1 ≤ base }
-    ensures { result ≡ digits base (drop from s.now) (2 ^ 64) }
+    ensures { result ≡ in_range (reached number * base + d) }
 {
-    let mut i = from;
-    while i < s.len() {
-        let d = to_digit(s[i]);
-        if base <= d {
-            return Converted::BadDigit;
-        }
-        i += 1;
-    }
-    Converted::TooLarge
+    number?.checked_mul(u64::from(base))?.checked_add(d)
 }
 
-// The number that the bytes from `from` on say.
-fn all_digits(s: &[u8], from: usize, base: u64) -> Converted
-    requires { (2 ≤ base) × (base ≤ 16) }
-    ensures { result ≡ digits base (drop from s.now) 0 }
+// The number that the bytes say. A wrong byte behind one that is too large already is told first.
+fn all_digits(s: &[u8], base: u32) -> Result<u64, ConversionError>
+    requires { (2 ≤ base) × (base ≤ 36) }
+    ensures { result ≡ digits base s.now 0 }
 {
-    let mut acc: u64 = 0;
-    let mut i = from;
-    while i < s.len() {
-        let d = to_digit(s[i]);
-        if base <= d {
-            return Converted::BadDigit;
-        }
-        if (18446744073709551615 - d) / base < acc {
-            return beyond(s, i + 1, base);
-        }
-        acc = acc * base + d;
-        i += 1;
+    let mut number = Some(0);
+    for b in s {
+        let d = to_digit(*b, base).ok_or(ConversionError::BadDigit)?;
+        number = add_digit(number, base, d);
     }
-    Converted::Value(acc)
+    number.ok_or(ConversionError::TooLarge)
 }
 
 // One leading plus sign, if digits follow.
-fn from_str_radix(s: &[u8], from: usize, base: u64) -> Converted
-    requires { (2 ≤ base) × (base ≤ 16) }
-    ensures { result ≡ radix base (drop from s.now) }
+fn from_str_radix(s: &[u8], base: u32) -> Result<u64, ConversionError>
+    requires { (2 ≤ base) × (base ≤ 36) }
+    ensures { result ≡ radix base s.now }
 {
-    if s.len() <= from {
-        return Converted::Empty;
+    match s {
+        [] => Err(ConversionError::Empty),
+        [b'+'] => Err(ConversionError::BadDigit),
+        [b'+', digits @ ..] => all_digits(digits, base),
+        _ => all_digits(s, base),
     }
-    if s[from] != 43 {
-        return all_digits(s, from, base);
-    }
-    if s.len() - from == 1 {
-        return Converted::BadDigit;
-    }
-    all_digits(s, from + 1, base)
 }
 
 // Base 16 after `0x`, else base 10.
-pub fn convert(s: &[u8]) -> Converted
+pub fn convert(s: &[u8]) -> Result<u64, ConversionError>
     ensures { result ≡ convert s.now }
 {
-    if s.len() < 2 {
-        return from_str_radix(s, 0, 10);
+    match s {
+        [b'0', b'x', digits @ ..] => from_str_radix(digits, 16),
+        _ => from_str_radix(s, 10),
     }
-    if s[0] != 48 {
-        return from_str_radix(s, 0, 10);
-    }
-    if s[1] != 120 {
-        return from_str_radix(s, 0, 10);
-    }
-    from_str_radix(s, 2, 16)
 }
 
-// 01's number for the answer.
-pub fn reason_of(c: Converted) -> u64
+// 01's number for the answer, as the C interface tells it.
+pub fn reason_of(c: Result<u64, ConversionError>) -> u64
     ensures { result ≡ reason_of c }
 {
     match c {
-        Converted::Value(_) => 0,
-        Converted::Empty => 1,
-        Converted::BadDigit => 2,
-        Converted::TooLarge => 3,
+        Ok(_) => 0,
+        Err(error) => error.reason(),
     }
 }
 
-// The value, 0 where there is none.
-pub fn value_of(c: Converted) -> u64
+// The value, 0 where there is none, as the C interface tells it.
+pub fn value_of(c: Result<u64, ConversionError>) -> u64
     ensures { result ≡ value_of c }
 {
-    match c {
-        Converted::Value(v) => v,
-        Converted::Empty => 0,
-        Converted::BadDigit => 0,
-        Converted::TooLarge => 0,
-    }
+    c.unwrap_or(0)
 }

@@ -1,21 +1,22 @@
-use Rattle.std.proofs.Common.{sym, ◌∙◌}
-use Rattle.text.proofs.ConvertTurns.{fits, turn_bad, turn_good, turn_over, digits_end}
+use Rattle.std.proofs.Common.{arith, sym, ◌∙◌}
+use Rattle.std.proofs.lemmas.Result.{err_from_is_err_and}
+use Rattle.text.proofs.ConvertTurns.{turn_bad, turn_good, digits_end, in_range_once}
 use Rattle.text.proofs.all_digits.Goals as goal
 
-pub returns-then-base-d : goal.returns-then-base-d
-returns-then-base-d c = sym (c.loop-i.invariant.1 ∙ turn_bad _ _ c.loop-i.i _ _ c.loop-i-test.true c.to_digit-d.ensures c.if-base-d.true)
+pub returns-in_err-d : goal.returns-in_err-d
+returns-in_err-d c =
+    let p = err_from_is_err_and c.from_residual.result c.from_residual.ensures.1 in
+    let k = sym c.ok_or.ensures.value ∙ c.in_err-d.was in
+    rw (p.1, p.2) (sym (c.loop-b.invariant.1 ∙ turn_bad _ _ c.loop-b.b-index _ c.loop-b-test.true _ c.to_digit.ensures k))
 
-pub returns-then-d-base : goal.returns-then-d-base
-returns-then-d-base c = c.beyond.ensures ∙ sym (c.loop-i.invariant.1 ∙ turn_over _ _ c.loop-i.i _ _ c.loop-i-test.true
-    c.to_digit-d.ensures c.if-base-d.false c.requires.0
-    c.requires.1 c.if-d-base.true)
-
-pub loop-i-preserved : goal.loop-i-preserved
-loop-i-preserved c = (
-  fits _ _ _ c.requires.0 c.requires.1 c.if-base-d.false c.if-d-base.false,
-  c.loop-i.invariant.1 ∙ turn_good _ _ c.loop-i.i _ _ c.loop-i-test.true c.to_digit-d.ensures
-      c.if-base-d.false,
-)
+pub loop-b-preserved : goal.loop-b-preserved
+loop-b-preserved c =
+    let k = sym c.ok_or.ensures.value ∙ c.in_ok-d.was in
+    rw c.add_digit-number.ensures (
+      in_range_once _,
+      c.loop-b.invariant.1
+          ∙ turn_good _ _ c.loop-b.b-index _ c.loop-b-test.true _ c.to_digit.ensures k (omega (arith, c.requires.0)),
+    )
 
 pub returns : goal.returns
-returns c = sym (c.loop-i.invariant.1 ∙ digits_end _ _ c.loop-i.i _ c.loop-i-test.false c.loop-i.invariant.0)
+returns c = digits_end _ _ c.loop-b.b-index _ _ c.loop-b-test.false c.loop-b.invariant.0 c.ok_or-2.ensures.value ∙ sym c.loop-b.invariant.1
