@@ -1,4 +1,5 @@
 pub mod Matching
+pub mod Closures
 pub mod Picks
 pub mod Hits
 pub mod Fits

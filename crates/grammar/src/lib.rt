@@ -1,10 +1,12 @@
 // The combinators that every matcher is made of: a match goes on from another, stays where it was, or is tried after one
-// that missed.
+// that missed. Text and match stay two parameters, and each step asks that the match lies within the text: a struct of both
+// would ask that once, but then each step would have to promise that the text is the same, and each answer carry the text.
 #![tactic(auto)]
 
 ghost use Rattle.std.specs.Prelude.{◌≡◌, ◌+◌, ◌^◌, ◌≤◌, ◌<◌, max, length, drop};
-ghost use Rattle.meaning.specs.Peg.{lift, join, hit, taken};
-ghost use Rattle.grammar.specs.Matching.{Within, Stays, stay};
+ghost use Rattle.meaning.specs.Peg.{lift, join};
+ghost use Rattle.grammar.specs.Matching.{Within, Stays, Steps, Tries, stay};
+ghost use Rattle.grammar.specs.Closures.{Fits, Matches};
 
 use meaning::Match;
 
@@ -13,11 +15,7 @@ fn farther(f: usize, n: usize, g: usize) -> usize
     requires { n + g < 2 ^ 64 }
     ensures { result ≡ max f (lift n g) }
 {
-    if g == 0 {
-        return f;
-    }
-    let h = n + g;
-    if f < h { h } else { f }
+    if g == 0 { f } else { f.max(n + g) }
 }
 
 // The match m, which starts n bytes on, after tries as far as f.
@@ -31,36 +29,40 @@ pub fn joined(s: &[u8], n: usize, f: usize, m: Match) -> Match
     }
 }
 
+// What the matcher takes where m ends.
+pub fn then<F: FnOnce(&[u8]) -> Match>(s: &[u8], m: Match, matcher: F) -> Match
+    requires within { Within m s.now }
+    requires callable { F.IsAlwaysCallable matcher }
+    requires fits { Fits F.FnOnce matcher }
+    ensures { (g : _) → Matches F.FnOnce matcher g → Steps m g s.now result }
+{
+    match m {
+        Match::Missed(f) => Match::Missed(f),
+        Match::Took(n, f) => joined(s, n, f, matcher(&s[n..])),
+    }
+}
+
+// m, or, where it missed, what the matcher takes of s.
+pub fn or_else<F: FnOnce(&[u8]) -> Match>(s: &[u8], m: Match, matcher: F) -> Match
+    requires within { Within m s.now }
+    requires callable { F.IsAlwaysCallable matcher }
+    requires fits { Fits F.FnOnce matcher }
+    ensures { (g : _) → Matches F.FnOnce matcher g → Tries m g s.now result }
+{
+    match m {
+        Match::Missed(f) => joined(s, 0, f, matcher(s)),
+        Match::Took(_, _) => m,
+    }
+}
+
 // x, or, where x missed, m with the mark of x: an optional part that may be absent.
 pub fn optional(s: &[u8], m: Match, x: Match) -> Match
     requires { Within m s.now × Within x s.now }
     ensures { Stays m x s.now result }
 {
-    match m {
-        Match::Missed(f) => Match::Missed(f),
-        Match::Took(n, _) => match x {
-            Match::Missed(g) => Match::Took(n, g),
-            Match::Took(k, g) => Match::Took(k, g),
-        },
-    }
-}
-
-// Whether m took.
-pub fn took(m: Match) -> bool
-    ensures { result ≡ hit m }
-{
-    match m {
-        Match::Missed(_) => false,
-        Match::Took(_, _) => true,
-    }
-}
-
-// How much m took: nothing, where it missed.
-pub fn taken(m: Match) -> usize
-    ensures { result ≡ taken m }
-{
-    match m {
-        Match::Missed(_) => 0,
-        Match::Took(n, _) => n,
+    match (m, x) {
+        (Match::Missed(_), _) => m,
+        (Match::Took(n, _), Match::Missed(g)) => Match::Took(n, g),
+        (Match::Took(_, _), Match::Took(_, _)) => x,
     }
 }

@@ -1,12 +1,7 @@
 -- The walk over a blank run: spaces, then again and again a comment and the spaces behind it.
-use Prim.Native.Nat.{ℕ, suc, ◌+◌, ◌-◌, ◌≤◌, ◌<◌, max}
-use native.Mathlib.Omega.{arith}
-use mathlib.Core.Path.{◌≡◌, refl, ap, ap₂, subst, sym, ◌∙◌}
-use mathlib.Core.List.{List}
-use mathlib.Core.Bool.{true, false}
-use lib.ListN.{length, take, drop, get_or, length-drop, drop_of_length-le}
-use lib.Seq.{drop-drop, drop-cons}
-use borrow.Author.Tests.{ne_eqb}
+use Rattle.std.specs.Prelude.{ℕ, suc, ◌+◌, ◌-◌, ◌≤◌, ◌<◌, max, ◌≡◌, refl, List, [], ◌∷◌, Bool, true, false, ◌&&◌, length, take, drop, eqb}
+use Rattle.std.specs.List.{starts_with}
+use Rattle.std.proofs.Common.{arith, ap, ap₂, subst, sym, ◌∙◌, length-drop, drop-drop}
 use Rattle.meaning.specs.declared.Match.{Match}
 use Rattle.meaning.specs.declared.Match.TheVariants.{Missed, Took}
 use Rattle.meaning.specs.Peg.{Peg, seq, star, lift, join, after, hushed, again, run, bytewise, hit}
@@ -85,11 +80,17 @@ module _ {t : List ℕ} {n : ℕ} (w : CommentNext t n) where
       = unroll spaced eats_spaced (drop n t) ∙ ap (λ (m : Match). then_again (then_spaces m (drop n t)) (drop n t)) e in
       record { is = w.left ∙ ap (λ (m : Match). hushed (join n 0 m)) none ∙ ap (λ (k : ℕ). Took k 0) (omega arith); fits = w.fits }
 
-  pub walk_end : length t ≤ n → Skips t n
-  walk_end h = stop _ refl (rw (drop_of_length-le t h) none_commented)
+  -- what is at n starts with no slash
+  pub walk_other : false ≡ starts_with eqb (take (length t - n) (drop n t)) (47 ∷ []) → Skips t n
+  walk_other e = stop _ refl (go (drop n t) (e ∙ ap (λ (u : List ℕ). starts_with eqb u (47 ∷ [])) (rest_is n t)))
+    where
+      first : (b : Bool) → false ≡ b && true → b ≡ false
+      first true q = sym q
+      first false q = refl
 
-  pub walk_other : n < length t → (get_or t n 0 ≡ 47 → ⊥) → Skips t n
-  walk_other l h = stop _ refl (rw (drop-cons t n 0 l) (no_comment (get_or t n 0) _ (ne_eqb 47 (get_or t n 0) (λ e. h (sym e)))))
+      go : (u : List ℕ) → false ≡ starts_with eqb u (47 ∷ []) → hit (run (bytewise COMMENT) u) ≡ false
+      go [] q = none_commented
+      go (x ∷ u) q = no_comment x u (first (eqb 47 x) q)
 
   module _ {m : Match} (h : Reads COMMENT (take (length t - n) (drop n t)) m) where
     pub walk_done : {g : ℕ} → m ≡ Missed g → Skips t n

@@ -1,64 +1,32 @@
 -- The turns of a text: byte by byte, and all bytes before one.
-use Prim.Native.Nat.{ℕ, ◌+◌, ◌-◌, ◌≤◌, ◌<◌}
-use native.Mathlib.Omega.{arith}
-use native.Mathlib.Numerals.{add-one}
-use mathlib.Core.Path.{◌≡◌, refl, ap, sym, ◌∙◌}
-use mathlib.Core.List.{List, [], ◌∷◌}
-use mathlib.Core.Bool.{Bool, true, false}
-use lib.ListN.{length, take, drop, length-drop, get_or, drop_of_length-le}
-use lib.Seq.{drop-cons}
-use borrow.Author.Tests.{eq-eqb, ne_eqb}
+use Rattle.std.specs.Prelude.{ℕ, ◌+◌, ◌-◌, ◌≤◌, ◌<◌, ◌≡◌, refl, List, [], ◌∷◌, Bool, true, false, length, take, drop, get_or, eqb, None, Some, slice_get}
+use Rattle.std.specs.List.{starts_with}
+use Rattle.std.proofs.Common.{arith, ap, sym, ◌∙◌, length-drop, drop_of_length-le, drop-cons, ne_eqb}
 use Rattle.meaning.specs.declared.Match.{Match}
 use Rattle.meaning.specs.declared.Match.TheVariants.{Missed, Took}
 use Rattle.meaning.specs.Choice.{pick}
 use Rattle.meaning.specs.Peg.{Peg, lit, any, any_byte, neg, seq, star, prefixb, join, after, turned, one_byte, run}
 use Rattle.grammar.specs.Matching.{Reads, Steps}
-use Rattle.grammar.specs.Steps.{reads, steps, start, at, Rest, rest_start, rest_more, rest_done}
+use Rattle.lexis.specs.Prefixes.{starts}
+use Rattle.grammar.specs.Steps.{reads, steps, start, rest_is, Rest, rest_start, rest_more, rest_done}
 
 -- ---- a text
-pub prefix_step : (l s : List ℕ) (i : ℕ) → i < length l → i < length s → get_or s i 0 ≡ get_or l i 0
-    → prefixb (drop i l) (drop i s) ≡ prefixb (drop (i + 1) l) (drop (i + 1) s)
-prefix_step l s i hl hs e = rw (add-one, drop-cons l i 0 hl, drop-cons s i 0 hs, eq-eqb (get_or l i 0) (get_or s i 0) (sym e))
-
-pub prefix_stop : (l s : List ℕ) (i : ℕ) → i < length l → length s ≤ i → prefixb (drop i l) (drop i s) ≡ false
-prefix_stop l s i hl hs = rw (drop_of_length-le s hs, drop-cons l i 0 hl)
-
-pub prefix_differ : (l s : List ℕ) (i : ℕ) → i < length l → i < length s → (get_or s i 0 ≡ get_or l i 0 → ⊥) → prefixb (drop i l) (drop i s) ≡ false
-prefix_differ l s i hl hs n = rw (drop-cons l i 0 hl, drop-cons s i 0 hs, ne_eqb (get_or l i 0) (get_or s i 0) (λ e. n (sym e)))
-
-pub lit_miss : (l s : List ℕ) → prefixb l s ≡ false → Reads (lit l) s (Missed 1)
+pub lit_took : (l s : List ℕ) → true ≡ starts_with eqb s l → Reads (lit l) s (Took (length l) 0)
 unfolding run
-lit_miss l s e = reads (lit l) s (Missed 1) (rw e)
+lit_took l s e = reads (lit l) s (Took (length l) 0) (rw (sym (e ∙ starts l s)))
 
-pub lit_took : (l s : List ℕ) (n : ℕ) → length l ≤ n → prefixb l s ≡ prefixb (drop n l) (drop n s) → Reads (lit l) s (Took (length l) 0)
+pub lit_miss : (l s : List ℕ) → false ≡ starts_with eqb s l → Reads (lit l) s (Missed 1)
 unfolding run
-lit_took l s n h e = reads (lit l) s (Took (length l) 0) (rw (e, drop_of_length-le l h))
-
--- which answer says what of the test
-lit_hit : (l u : List ℕ) (m : Match) (k g : ℕ) → Reads (lit l) u m → m ≡ Took k g → prefixb l u ≡ true
-unfolding run
-lit_hit l u m k g h e = go (prefixb l u) (sym e ∙ h.is)
-  where
-    go : (b : Bool) → Took k g ≡ pick b (Took (length l) 0) (Missed 1) → b ≡ true
-    go true q = refl
-    go false q = cc
-
-lit_not : (l u : List ℕ) (m : Match) (g : ℕ) → Reads (lit l) u m → m ≡ Missed g → prefixb l u ≡ false
-unfolding run
-lit_not l u m g h e = go (prefixb l u) (sym e ∙ h.is)
-  where
-    go : (b : Bool) → Missed g ≡ pick b (Took (length l) 0) (Missed 1) → b ≡ false
-    go true q = cc
-    go false q = refl
+lit_miss l s e = reads (lit l) s (Missed 1) (rw (sym (e ∙ starts l s)))
 
 -- where a text cannot stand: at the end, and at another byte than its first
-absent_end : (l t : List ℕ) (i : ℕ) → (length l ≡ 0 → ⊥) → length t ≤ i → prefixb l (drop i t) ≡ false
-absent_end [] t i n h = absurd (n refl)
-absent_end (x ∷ l) t i n h = rw (drop_of_length-le t h)
+absent_end : (l : List ℕ) {x : ℕ} (t : List ℕ) (i : ℕ) → Some x ≡ slice_get l 0 → length t ≤ i → prefixb l (drop i t) ≡ false
+absent_end [] {x} t i n h = cc
+absent_end (y ∷ l) {x} t i n h = rw (drop_of_length-le t h)
 
-absent_first : (l t : List ℕ) (i : ℕ) → (length l ≡ 0 → ⊥) → i < length t → (get_or t i 0 ≡ get_or l 0 0 → ⊥) → prefixb l (drop i t) ≡ false
-absent_first [] t i n h d = absurd (n refl)
-absent_first (x ∷ l) t i n h d = rw (drop-cons t i 0 h, ne_eqb x (get_or t i 0) (λ e. d (sym e)))
+absent_first : (l : List ℕ) {x : ℕ} (t : List ℕ) (i : ℕ) → Some x ≡ slice_get l 0 → i < length t → (get_or t i 0 ≡ x → ⊥) → prefixb l (drop i t) ≡ false
+absent_first [] {x} t i n h d = cc
+absent_first (y ∷ l) {x} t i n h d = let q : x ≡ y = cc in rw (drop-cons t i 0 h, ne_eqb y (get_or t i 0) (λ e. d (sym (q ∙ e))))
 
 -- ---- all bytes before a text: one turn, at u
 abbrev pub before : List ℕ → Peg
@@ -94,24 +62,27 @@ module _ {l t : List ℕ} {i : ℕ} (v : Rest (before l) t (Took 0 0) (Took i 0)
   more : prefixb l (drop i t) ≡ false → i < length t → Rest (before l) t (Took 0 0) (Took (i + 1) 0)
   more e q = rest_more (i + 1) 0 refl v (goes (turn_one l (drop i t) e (omega (arith, length-drop i t)))) refl
 
-  -- the text is looked for at i, with the answer m, or another byte than its first stands there
-  module _ {m : Match} (h : Reads (lit l) (take (length t - i) (drop i t)) m) where
-    pub upto_hit : {k g : ℕ} → m ≡ Took k g → Reads (star (before l)) t (Took i 0)
-    upto_hit {k} {g} e = done (lit_hit l (drop i t) m k g (at i t h) e)
+  -- the text is looked for at i, or another byte than its first stands there
+  found : {b : Bool} → b ≡ starts_with eqb (take (length t - i) (drop i t)) l → prefixb l (drop i t) ≡ b
+  found {b} e = sym (e ∙ ap (λ (u : List ℕ). starts_with eqb u l) (rest_is i t) ∙ starts l (drop i t))
 
-    pub upto_miss : {g : ℕ} → m ≡ Missed g → i < length t → Rest (before l) t (Took 0 0) (Took (i + 1) 0)
-    upto_miss {g} e q = more (lit_not l (drop i t) m g (at i t h) e) q
+  pub upto_hit : true ≡ starts_with eqb (take (length t - i) (drop i t)) l → Reads (star (before l)) t (Took i 0)
+  upto_hit e = done (found e)
 
-  pub upto_other : (length l ≡ 0 → ⊥) → i < length t → (get_or t i 0 ≡ get_or l 0 0 → ⊥) → Rest (before l) t (Took 0 0) (Took (i + 1) 0)
+  pub upto_miss : false ≡ starts_with eqb (take (length t - i) (drop i t)) l → i < length t → Rest (before l) t (Took 0 0) (Took (i + 1) 0)
+  upto_miss e q = more (found e) q
+
+  pub upto_other : {x : ℕ} → Some x ≡ slice_get l 0 → i < length t → (get_or t i 0 ≡ x → ⊥) → Rest (before l) t (Took 0 0) (Took (i + 1) 0)
   upto_other n q d = more (absent_first l t i n q d) q
 
-  pub upto_end : (length l ≡ 0 → ⊥) → length t ≤ i → Reads (star (before l)) t (Took i (i + 1))
+  pub upto_end : {x : ℕ} → Some x ≡ slice_get l 0 → length t ≤ i → Reads (star (before l)) t (Took (length t) (length t + 1))
   upto_end n q =
-      start
+      let z : i ≡ length t = let w : i ≤ length t = v.fits.0 in omega arith in
+      rw (← z) (start
       (rest_done (i + 1) refl (omega arith) v (goes (turn_end l (drop i t) (absent_end l t i n q) (omega (arith, length-drop i t))))
-      (ap Missed (omega arith)) (ap (λ (k : ℕ). Took i k) (omega arith)))
+      (ap Missed (omega arith)) (ap (λ (k : ℕ). Took i k) (omega arith))))
 
 -- no byte stands before the empty text
-pub upto_none : (l t : List ℕ) → length l ≡ 0 → Reads (star (before l)) t (Took 0 0)
+pub upto_none : (l t : List ℕ) → None ≡ slice_get l 0 → Reads (star (before l)) t (Took 0 0)
 upto_none [] t e = done (come [] t) refl
-upto_none (x ∷ l) t e = absurd (omega arith)
+upto_none (x ∷ l) t e = cc

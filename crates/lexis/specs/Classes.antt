@@ -1,7 +1,11 @@
 -- Classes of bytes, and the laws of runs and words: what an expression that takes one byte of a class takes again and again.
-use Rattle.std.specs.Prelude.{ℕ, suc, ◌+◌, ◌-◌, ◌≤◌, ◌<◌, max, ◌≡◌, refl, List, [], ◌∷◌, Bool, true, false, length, take, drop, get_or, eqb}
-use Rattle.std.proofs.Common.{arith, add-one, ap₂, sym, ◌∙◌, drop_of_length-le, drop-cons, eq-eqb, ne_eqb}
+use Rattle.std.specs.Prelude.{ℕ, suc, ◌+◌, ◌≤◌, ◌<◌, max, ◌≡◌, refl, List, [], ◌∷◌, Bool, true, false, length, drop, get_or, eqb, Option, None, Some, slice_get, not, cond, nat_lt}
+use Rattle.std.proofs.Common.{arith, add-one, ap₂, sym, ◌∙◌, drop_of_length-le, drop-cons}
 use Rattle.std.proofs.Math.Path.{ap}
+use Rattle.std.specs.List.{position, position_or_len}
+use Rattle.std.specs.Option.{unwrap_or}
+use Rattle.std.proofs.lemmas.Bool.{ltb-false}
+use Rattle.std.proofs.lemmas.List.Recursion.{is_position_or_len}
 use Rattle.meaning.specs.declared.Match.{Match}
 use Rattle.meaning.specs.declared.Match.TheVariants.{Missed, Took}
 use Rattle.meaning.specs.Choice.{pick, both, either}
@@ -9,7 +13,7 @@ use Rattle.meaning.specs.Peg.{Peg, lit, range, seq, alt, star, join, lift, after
 use Rattle.meaning.specs.Pdl.{WHITESPACE, alpha, digit, hexdigit, alphanum}
 use Rattle.grammar.specs.Matching.{Reads}
 use Rattle.grammar.specs.Fits.{lift_le}
-use Rattle.grammar.specs.Steps.{reads, rest_is}
+use Rattle.grammar.specs.Steps.{reads}
 use Rattle.lexis.specs.declared.bytes.Class.{Class}
 use Rattle.lexis.specs.declared.bytes.Class.TheVariants.{Space, Alpha, Alphanum, Digit, Hexdigit}
 
@@ -80,6 +84,23 @@ span_stop f t i h e = rw (drop-cons t i 0 h, e) (omega arith)
 pub span_end : (f : ℕ → Bool) (t : List ℕ) (i : ℕ) → length t ≤ i → i + span f (drop i t) ≡ i
 unfolding span
 span_end f t i h = rw (drop_of_length-le t h) (omega arith)
+
+-- the place of the first byte that is not of a class, or else the end
+span_found : (f : ℕ → Bool) (t : List ℕ) → span f t ≡ position_or_len (λ x. not (f x)) t
+unfolding span
+span_found f = is_position_or_len (span f) (λ x. not (f x)) refl (λ x t. go (f x) (span f t))
+  where
+    go : (d : Bool) (n : ℕ) → suc_if d n ≡ cond (not d) 0 (1 + n)
+    go true n = omega arith
+    go false n = refl
+
+pub runs_found : (f : ℕ → Bool) (t : List ℕ) {p : Option ℕ} {r : ℕ} → p ≡ position (λ x. not (f x)) t → r ≡ unwrap_or p (length t) → Runs f t r
+runs_found f t {p} {r} e q =
+    runs f t r (q ∙ rw (e, ← span_found f t) (go (nat_lt (span f t) (length t)) refl))
+  where
+    go : (b : Bool) → nat_lt (span f t) (length t) ≡ b → unwrap_or (cond b (Some (span f t)) None) (length t) ≡ span f t
+    go true h = refl
+    go false h = omega (arith, span_le f t, ltb-false (span f t) (length t) h)
 
 -- ---- one byte: it was taken or not, and a try that failed before it was taken leaves a mark
 abbrev Hit : Bool → Match → Type 0
@@ -175,26 +196,24 @@ module _ (h k : Class) where
   word_none [] e = reads (seq (one_of h) (star (one_of k))) [] (Missed 1) (sym word_nil)
   word_none (x ∷ t) e = absurd (omega arith)
 
-  pub word_not : (t : List ℕ) → (length t ≡ 0 → ⊥) → classed h (get_or t 0 0) ≡ false → Reads (seq (one_of h) (star (one_of k))) t (Missed 1)
-  word_not [] n e = absurd (n refl)
-  word_not (x ∷ t) n e = reads (seq (one_of h) (star (one_of k))) (x ∷ t) (Missed 1) (sym (word_cons x t ∙ rw e))
+  pub word_not : {s t : List ℕ} {x : ℕ} → s ≡ x ∷ t → classed h x ≡ false → Reads (seq (one_of h) (star (one_of k))) s (Missed 1)
+  word_not {s} {t} {x} q e = rw q (reads (seq (one_of h) (star (one_of k))) (x ∷ t) (Missed 1) (sym (word_cons x t ∙ rw e)))
 
-  pub word_is : (t : List ℕ) (r : ℕ) → (length t ≡ 0 → ⊥) → classed h (get_or t 0 0) ≡ true → Runs (classed k) (take (length t - 1) (drop 1 t)) r
-      → Reads (seq (one_of h) (star (one_of k))) t (Took (r + 1) (r + 2))
-  word_is [] r n e q = absurd (n refl)
-  word_is (x ∷ t) r n e q =
-      let z : r ≡ span (classed k) t = q.is ∙ ap (span (classed k)) (rest_is 1 (x ∷ t)) in
-      reads (seq (one_of h) (star (one_of k))) (x ∷ t) (Took (r + 1) (r + 2)) (sym (word_cons x t ∙ rw (e, ← z) (ap₂ Took (omega arith) (omega arith))))
+  pub word_is : {s t : List ℕ} {x r : ℕ} → s ≡ x ∷ t → classed h x ≡ true → Runs (classed k) t r
+      → Reads (seq (one_of h) (star (one_of k))) s (Took (r + 1) (r + 2))
+  word_is {s} {t} {x} {r} q e n =
+      rw q
+      (reads (seq (one_of h) (star (one_of k))) (x ∷ t) (Took (r + 1) (r + 2))
+      (sym (word_cons x t ∙ rw (e, ← n.is) (ap₂ Took (omega arith) (omega arith)))))
 
--- ---- one whitespace character, with its mark
-white : List ℕ → Match
-white [] = Missed 1
-white (x ∷ t) = pick (eqb 32 x) (Took 1 0) (pick (spaceb x) (Took 1 1) (Missed 1))
+-- ---- one whitespace character, the first of a text, with its mark
+abbrev pub white : Option ℕ → Match
+white None = Missed 1
+white (Some x) = pick (eqb 32 x) (Took 1 0) (pick (spaceb x) (Took 1 1) (Missed 1))
 
-white_is : (t : List ℕ) → run (bytewise WHITESPACE) t ≡ white t
-unfolding run WHITESPACE white
-white_is [] = refl
-white_is (x ∷ t) =
+white_is : (x : ℕ) (t : List ℕ) → run (bytewise WHITESPACE) (x ∷ t) ≡ white (Some x)
+unfolding run WHITESPACE
+white_is x t =
     go (eqb 32 x) (eqb 10 x) (eqb 13 x) (eqb 9 x) (λ u. run (lit (10 ∷ [])) u) (λ u. run (lit (13 ∷ [])) u) (λ u. run (lit (9 ∷ [])) u) refl refl refl
   where
     one : Bool → Match
@@ -208,22 +227,7 @@ white_is (x ∷ t) =
     go false false false true p q r hp hq hr = rw (hp, hq, hr)
     go false false false false p q r hp hq hr = rw (hp, hq, hr)
 
-pub white_none : (t : List ℕ) → length t ≡ 0 → Reads WHITESPACE t (Missed 1)
-unfolding white
-white_none [] e = reads WHITESPACE [] (Missed 1) (sym (white_is []))
-white_none (x ∷ t) e = absurd (omega arith)
-
-pub white_space : (t : List ℕ) → (length t ≡ 0 → ⊥) → get_or t 0 0 ≡ 32 → Reads WHITESPACE t (Took 1 0)
-unfolding white
-white_space [] n e = absurd (n refl)
-white_space (x ∷ t) n e = reads WHITESPACE (x ∷ t) (Took 1 0) (sym (white_is (x ∷ t) ∙ rw (eq-eqb 32 x (sym e))))
-
-pub white_other : (t : List ℕ) → (length t ≡ 0 → ⊥) → (get_or t 0 0 ≡ 32 → ⊥) → spaceb (get_or t 0 0) ≡ true → Reads WHITESPACE t (Took 1 1)
-unfolding white
-white_other [] n d e = absurd (n refl)
-white_other (x ∷ t) n d e = reads WHITESPACE (x ∷ t) (Took 1 1) (sym (white_is (x ∷ t) ∙ rw (e, ne_eqb 32 x (λ q. d (sym q)))))
-
-pub white_not : (t : List ℕ) → (length t ≡ 0 → ⊥) → (get_or t 0 0 ≡ 32 → ⊥) → spaceb (get_or t 0 0) ≡ false → Reads WHITESPACE t (Missed 1)
-unfolding white
-white_not [] n d e = absurd (n refl)
-white_not (x ∷ t) n d e = reads WHITESPACE (x ∷ t) (Missed 1) (sym (white_is (x ∷ t) ∙ rw (e, ne_eqb 32 x (λ q. d (sym q)))))
+pub white_reads : (t : List ℕ) (r : Match) → r ≡ white (slice_get t 0) → Reads WHITESPACE t r
+unfolding run WHITESPACE
+white_reads [] r e = reads WHITESPACE [] r e
+white_reads (x ∷ t) r e = reads WHITESPACE (x ∷ t) r (e ∙ sym (white_is x t))

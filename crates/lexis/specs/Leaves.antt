@@ -14,7 +14,7 @@ pub lit_none : (l : List ℕ) (o : ℕ) (t : List ℕ) → nodes (lit l) o t ≡
 lit_none l o t = none_of (lit l) refl o t
 
 -- ---- the tokens
-abbrev Leaf : Rule → Peg → Type 0
+abbrev pub Leaf : Rule → Peg → Type 0
 Leaf r p = (o : ℕ) (t : List ℕ) → hit (run (bytewise p) t) ≡ true → nodes (bytewise p) o t ≡ tree r o (taken (run (bytewise p) t)) nil nil
 
 pub identifier_leaf : Leaf Rule.identifier identifier

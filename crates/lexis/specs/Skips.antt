@@ -1,14 +1,14 @@
 -- A blank run: it always takes, its mark is 0, and behind it stands no other. A comment starts with a slash.
-use Rattle.std.specs.Prelude.{ℕ, ◌+◌, ◌-◌, ◌≤◌, ◌≡◌, refl, List, [], ◌∷◌, true, false, length, take, drop, eqb}
+use Rattle.std.specs.Prelude.{ℕ, ◌≤◌, ◌≡◌, refl, List, [], ◌∷◌, true, false, length, drop, eqb}
 use Rattle.std.proofs.Common.{arith, ap, sym, ◌∙◌}
 use Rattle.meaning.specs.declared.Match.{Match}
 use Rattle.meaning.specs.declared.Match.TheVariants.{Missed, Took}
-use Rattle.meaning.specs.Peg.{Peg, seq, star, join, after, hushed, run, bytewise, hit, taken}
+use Rattle.meaning.specs.Peg.{Peg, seq, star, hushed, run, bytewise, hit, taken}
 use Rattle.meaning.specs.Pdl.{WHITESPACE, block_comment, line_comment, COMMENT, skip}
-use Rattle.grammar.specs.Matching.{Within, Steps, eats}
+use Rattle.grammar.specs.Matching.{Reads, eats}
 use Rattle.grammar.specs.Hits.{hit_seq, hit_star}
 use Rattle.grammar.specs.Fits.{within_run}
-use Rattle.grammar.specs.Steps.{steps, rest_is, took_le}
+use Rattle.grammar.specs.Steps.{took_le}
 use Rattle.grammar.specs.Blanks.{blanks_twice}
 
 pub record Skips (t : List ℕ) (r : ℕ) : Type 0 where
@@ -37,15 +37,9 @@ skip_fits t r e = took_le (run (bytewise skip) t) t r 0 (within_run (bytewise sk
 pub skips : (t : List ℕ) → Skips t (taken (run (bytewise skip) t))
 skips t = record { is = skip_takes t; fits = skip_fits t (taken (run (bytewise skip) t)) (skip_takes t) }
 
--- as a step
-pub skip_steps : {t : List ℕ} {m : Match} {n f r : ℕ} → Within m t → m ≡ Took n f → Skips (take (length t - n) (drop n t)) r
-    → Steps m skip t (Took (n + r) f)
-skip_steps {t} {m} {n} {f} {r} w e h =
-    steps m skip t (Took (n + r) f) w
-    (sym
-    (ap (λ (y : Match). after y (λ u. run (bytewise skip) u) t) e
-    ∙ ap (λ (y : Match). join n f y) (sym (ap (λ (u : List ℕ). run (bytewise skip) u) (rest_is n t)) ∙ h.is)
-    ∙ ap (λ (k : ℕ). Took (n + r) k) (omega arith)))
+-- as a match
+pub skip_reads : {t : List ℕ} {r : ℕ} → Skips t r → Reads skip t (Took r 0)
+skip_reads h = record { is = sym h.is; fits = (h.fits, omega arith) }
 
 -- ---- blanks behind blanks are none
 eats_space : eats (bytewise WHITESPACE) ≡ true

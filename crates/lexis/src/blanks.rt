@@ -6,10 +6,11 @@ ghost use Rattle.lexis.specs.Skips.{Skips};
 
 use crate::bytes::{Class, run_of};
 use crate::texts::{enclosed, literal, then_literal, then_up_to};
-use grammar::{joined, optional};
+use grammar::{optional, or_else, then};
 use meaning::Match;
 
 // A block comment; an unclosed one is none.
+#[tactic(auto, unfolding(meaning::specs::Pdl::block_comment))]
 pub fn block_comment(s: &[u8]) -> Match
     ensures { Reads block_comment s.now result }
 {
@@ -27,23 +28,18 @@ pub fn line_comment(s: &[u8]) -> Match
 pub fn comment(s: &[u8]) -> Match
     ensures { Reads COMMENT s.now result }
 {
-    match block_comment(s) {
-        Match::Took(n, f) => Match::Took(n, f),
-        Match::Missed(f) => joined(s, 0, f, line_comment(s)),
-    }
+    or_else(s, block_comment(s), line_comment)
 }
 
 // How long the blank run at the front is. It never misses, and no try inside it counts. A comment is looked for only at a slash.
+// The loop is no `for`: each turn goes on from where the last one ended.
 pub fn blanks(s: &[u8]) -> usize
     ensures { Skips s.now result }
 {
     let mut n = 0;
     loop {
         n += run_of(&s[n..], Class::Space);
-        if s.len() <= n {
-            return n;
-        }
-        if s[n] != b'/' {
+        if !s[n..].starts_with(b"/") {
             return n;
         }
         match comment(&s[n..]) {
@@ -58,10 +54,7 @@ pub fn then_blanks(s: &[u8], m: Match) -> Match
     requires { Within m s.now }
     ensures { Steps m skip s.now result }
 {
-    match m {
-        Match::Missed(f) => Match::Missed(f),
-        Match::Took(n, f) => Match::Took(n + blanks(&s[n..]), f),
-    }
+    then(s, m, |rest| Match::Took(blanks(rest), 0))
 }
 
 // The text l after a blank run, where m ends.

@@ -4,5 +4,6 @@
 
 pub mod blanks;
 pub mod bytes;
+pub mod lists;
 pub mod texts;
 pub mod tokens;

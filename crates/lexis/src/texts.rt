@@ -1,25 +1,19 @@
 // Quoted texts, and all that stands before one.
-ghost use Rattle.meaning.specs.Peg.{lit, any, neg, seq, star};
+ghost use Rattle.meaning.specs.Peg.{lit, any, neg, seq, alt, star};
 ghost use Rattle.grammar.specs.Matching.{Within, Reads, Steps};
 
-use grammar::joined;
+use grammar::{or_else, then};
 use meaning::Match;
 
 // The text l.
 pub fn literal(s: &[u8], l: &[u8]) -> Match
     ensures { Reads (lit l.now) s.now result }
 {
-    let mut i = 0;
-    while i < l.len() {
-        if s.len() <= i {
-            return Match::Missed(1);
-        }
-        if s[i] != l[i] {
-            return Match::Missed(1);
-        }
-        i += 1;
+    if s.starts_with(l) {
+        Match::Took(l.len(), 0)
+    } else {
+        Match::Missed(1)
     }
-    Match::Took(l.len(), 0)
 }
 
 // The text l, where m ends.
@@ -27,30 +21,29 @@ pub fn then_literal(s: &[u8], m: Match, l: &[u8]) -> Match
     requires { Within m s.now }
     ensures { Steps m (lit l.now) s.now result }
 {
-    match m {
-        Match::Missed(f) => Match::Missed(f),
-        Match::Took(n, f) => joined(s, n, f, literal(&s[n..], l)),
-    }
+    then(s, m, |rest| literal(rest, l))
+}
+
+// The text first, or else the text second.
+pub fn either_literal(s: &[u8], first: &[u8], second: &[u8]) -> Match
+    ensures { Reads (alt (lit first.now) (lit second.now)) s.now result }
+{
+    or_else(s, literal(s, first), |rest| literal(rest, second))
 }
 
 // All bytes before the first l, which is looked for only where its first byte stands.
 fn up_to(s: &[u8], l: &[u8]) -> Match
     ensures { Reads (star (seq (neg (lit l.now)) any)) s.now result }
 {
-    if l.len() == 0 {
+    let Some(first) = l.first() else {
         return Match::Took(0, 0);
-    }
-    let first = l[0];
-    let mut i = 0;
-    while i < s.len() {
-        if s[i] == first {
-            if let Match::Took(_, _) = literal(&s[i..], l) {
-                return Match::Took(i, 0);
-            }
+    };
+    for (i, b) in s.iter().enumerate() {
+        if b == first && s[i..].starts_with(l) {
+            return Match::Took(i, 0);
         }
-        i += 1;
     }
-    Match::Took(i, i + 1)
+    Match::Took(s.len(), s.len() + 1)
 }
 
 // All bytes before the first l, where m ends.
@@ -58,10 +51,7 @@ pub fn then_up_to(s: &[u8], m: Match, l: &[u8]) -> Match
     requires { Within m s.now }
     ensures { Steps m (star (seq (neg (lit l.now)) any)) s.now result }
 {
-    match m {
-        Match::Missed(f) => Match::Missed(f),
-        Match::Took(n, f) => joined(s, n, f, up_to(&s[n..], l)),
-    }
+    then(s, m, |rest| up_to(rest, l))
 }
 
 // The text opening, all bytes before the first closing, and closing: a block comment, a string.

@@ -1,12 +1,12 @@
 // Names, numbers, strings and keywords: the atomic rules, with no blank between their parts.
-ghost use Rattle.meaning.specs.Peg.{lit, seq, alt};
-ghost use Rattle.meaning.specs.Pdl.{text, WHITESPACE, skip, identifier, payload_identifier, body_identifier, intvalue, hexvalue, integer, string, size_modifier};
+ghost use Rattle.meaning.specs.Peg.{lit, seq};
+ghost use Rattle.meaning.specs.Pdl.{WHITESPACE, skip, identifier, payload_identifier, body_identifier, intvalue, hexvalue, integer, string, size_modifier};
 ghost use Rattle.grammar.specs.Matching.{Within, Reads, Steps};
 
 use crate::blanks::then_blanks;
 use crate::bytes::{Class, is_space, then_word, word_of};
-use crate::texts::{enclosed, literal, then_literal};
-use grammar::joined;
+use crate::texts::{either_literal, enclosed, literal, then_literal};
+use grammar::{or_else, then};
 use meaning::Match;
 
 // A name: a letter, then letters, digits and underscores.
@@ -63,37 +63,26 @@ pub fn then_body_identifier(s: &[u8], m: Match) -> Match
 }
 
 // A number in base 10.
+#[tactic(auto, unfolding(meaning::specs::Pdl::intvalue))]
 pub fn intvalue(s: &[u8]) -> Match
     ensures { Reads intvalue s.now result }
 {
     word_of(s, Class::Digit, Class::Digit)
 }
 
-// What a number in base 16 starts with.
-fn prefix(s: &[u8]) -> Match
-    ensures { Reads (alt (text "0x") (text "0X")) s.now result }
-{
-    match literal(s, b"0x") {
-        Match::Took(n, f) => Match::Took(n, f),
-        Match::Missed(f) => joined(s, 0, f, literal(s, b"0X")),
-    }
-}
-
 // A number in base 16.
 pub fn hexvalue(s: &[u8]) -> Match
     ensures { Reads hexvalue s.now result }
 {
-    then_word(s, prefix(s), Class::Hexdigit, Class::Hexdigit)
+    let prefix = either_literal(s, b"0x", b"0X");
+    then_word(s, prefix, Class::Hexdigit, Class::Hexdigit)
 }
 
 // A number.
 pub fn integer(s: &[u8]) -> Match
     ensures { Reads integer s.now result }
 {
-    match hexvalue(s) {
-        Match::Took(n, f) => Match::Took(n, f),
-        Match::Missed(f) => joined(s, 0, f, intvalue(s)),
-    }
+    or_else(s, hexvalue(s), intvalue)
 }
 
 // A number, where m ends.
@@ -101,10 +90,7 @@ pub fn then_integer(s: &[u8], m: Match) -> Match
     requires { Within m s.now }
     ensures { Steps m integer s.now result }
 {
-    match m {
-        Match::Missed(f) => Match::Missed(f),
-        Match::Took(n, f) => joined(s, n, f, integer(&s[n..])),
-    }
+    then(s, m, integer)
 }
 
 // A text in quotes, with no escapes.
@@ -119,10 +105,7 @@ pub fn then_string(s: &[u8], m: Match) -> Match
     requires { Within m s.now }
     ensures { Steps m string s.now result }
 {
-    match m {
-        Match::Missed(f) => Match::Missed(f),
-        Match::Took(n, f) => joined(s, n, f, string(&s[n..])),
-    }
+    then(s, m, string)
 }
 
 // A plus sign and a number in base 10.
@@ -144,16 +127,11 @@ pub fn then_size_modifier(s: &[u8], m: Match) -> Match
 pub fn whitespace(s: &[u8]) -> Match
     ensures { Reads WHITESPACE s.now result }
 {
-    if s.len() == 0 {
-        return Match::Missed(1);
+    match s.first() {
+        Some(b' ') => Match::Took(1, 0),
+        Some(b) if is_space(*b) => Match::Took(1, 1),
+        _ => Match::Missed(1),
     }
-    if s[0] == b' ' {
-        return Match::Took(1, 0);
-    }
-    if is_space(s[0]) {
-        return Match::Took(1, 1);
-    }
-    Match::Missed(1)
 }
 
 // One whitespace character, where m ends.
@@ -161,10 +139,7 @@ pub fn then_whitespace(s: &[u8], m: Match) -> Match
     requires { Within m s.now }
     ensures { Steps m WHITESPACE s.now result }
 {
-    match m {
-        Match::Missed(f) => Match::Missed(f),
-        Match::Took(n, f) => joined(s, n, f, whitespace(&s[n..])),
-    }
+    then(s, m, whitespace)
 }
 
 // A keyword: the word, and one whitespace character directly after it.

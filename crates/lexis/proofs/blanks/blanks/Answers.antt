@@ -1,15 +1,12 @@
 use Rattle.std.proofs.Common.{arith}
-use Rattle.lexis.proofs.BlankTurns.{walk_start, walk_spaces, walk_end, walk_other, walk_done, walk_comment, comment_some}
+use Rattle.lexis.proofs.BlankTurns.{walk_start, walk_spaces, walk_other, walk_done, walk_comment, comment_some}
 use Rattle.lexis.proofs.blanks.blanks.Goals as goal
 
 pub loop-n-init : goal.loop-n-init
 loop-n-init c = walk_start
 
-pub returns-then-s-n : goal.returns-then-s-n
-returns-then-s-n c = walk_end (walk_spaces c.loop-n.invariant c.run_of-n.ensures) c.if-s-n.true
-
-pub returns-then-s-n-ne47 : goal.returns-then-s-n-ne47
-returns-then-s-n-ne47 c = walk_other (walk_spaces c.loop-n.invariant c.run_of-n.ensures) c.if-s-n.false c.if-s-n-ne47.true
+pub returns-then-not-starts_with : goal.returns-then-not-starts_with
+returns-then-not-starts_with c = walk_other (walk_spaces c.loop-n.invariant c.run_of-n.ensures) c.if-not-starts_with.ensures.value
 
 pub returns-in-Missed : goal.returns-in-Missed
 returns-in-Missed c = walk_done (walk_spaces c.loop-n.invariant c.run_of-n.ensures) c.comment.ensures c.in-Missed.is

@@ -1,21 +1,21 @@
 use Rattle.lexis.proofs.TextTurns.{upto_none, upto_hit, upto_miss, upto_other, upto_end}
 use Rattle.lexis.proofs.texts.up_to.Goals as goal
-use Rattle.lexis.proofs.texts.up_to.Goals.{then-s-i+in_default, else-s-i}
+use Rattle.lexis.proofs.texts.up_to.Goals.{else-b-first-via-then-b-first+else-starts_with, else-b-first-via-else-b-first}
 
-pub returns-then-l-eq0 : goal.returns-then-l-eq0
-returns-then-l-eq0 c = upto_none _ _ c.if-l-eq0.true
+pub returns-in_default : goal.returns-in_default
+returns-in_default c = upto_none _ _ c.in_default.ensures.value
 
-pub returns-in-Took : goal.returns-in-Took
-returns-in-Took c = upto_hit c.loop-i.invariant c.literal.ensures c.in-Took.is
+pub returns-then-starts_with : goal.returns-then-starts_with
+returns-then-starts_with c = upto_hit c.loop-i.invariant c.if-starts_with.ensures.value
 
 pub loop-i-preserved : goal.loop-i-preserved
 loop-i-preserved c =
     let v = c.loop-i.invariant in
     let h = c.loop-i-test.true in
-    elim c.if-s-i.branch [
-      | then-s-i+in_default w ↦ upto_miss v w.literal.ensures w.in_default.is h
-      | else-s-i w ↦ upto_other v c.if-l-eq0.false h w.if-s-i.false
+    elim c.else-b-first.branch [
+      | else-b-first-via-then-b-first+else-starts_with w ↦ upto_miss v w.if-starts_with.ensures.value h
+      | else-b-first-via-else-b-first w ↦ upto_other v c.in-Some.ensures.value h w.if-b-first.false
     ]
 
 pub returns : goal.returns
-returns c = upto_end c.loop-i.invariant c.if-l-eq0.false c.loop-i-test.false
+returns c = upto_end c.loop-i.invariant c.in-Some.ensures.value c.loop-i-test.false

@@ -5,4 +5,4 @@ use Rattle.lexis.proofs.tokens.hexvalue.Goals as goal
 
 pub returns : goal.returns
 unfolding hexvalue
-returns c = chain c.prefix.ensures c.then_word.ensures
+returns c = chain c.either_literal-prefix.ensures c.then_word.ensures

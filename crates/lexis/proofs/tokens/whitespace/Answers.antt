@@ -1,16 +1,16 @@
--- `whitespace` meets its contract: nothing, a space, another blank, or none.
-use Rattle.std.proofs.Common.{sym, ◌∙◌}
-use Rattle.lexis.specs.Classes.{white_none, white_space, white_other, white_not}
+-- `whitespace` meets its contract: a space, another blank, another byte, or nothing.
+use Rattle.std.proofs.Common.{sym, ne_eqb}
+use Rattle.lexis.specs.Classes.{white_reads}
 use Rattle.lexis.proofs.tokens.whitespace.Goals as goal
 
-pub returns-then-s-eq0 : goal.returns-then-s-eq0
-returns-then-s-eq0 c = white_none _ c.if-s-eq0.true
+pub returns-in-Some-eq32 : goal.returns-in-Some-eq32
+returns-in-Some-eq32 c = white_reads _ _ (rw (← c.in-Some-eq32.ensures.value, c.in-Some-eq32.field-0-test))
 
-pub returns-then-s-eq32 : goal.returns-then-s-eq32
-returns-then-s-eq32 c = white_space _ c.if-s-eq0.false c.if-s-eq32.true
+pub returns-in-Some : goal.returns-in-Some
+returns-in-Some c = white_reads _ _ (rw (← c.in-Some.ensures.value, ← c.if-is_space.ensures, ne_eqb 32 c.in-Some.b.now (λ e. c.in-Some.b-test.1 (sym e))))
 
-pub returns-then-is_space : goal.returns-then-is_space
-returns-then-is_space c = white_other _ c.if-s-eq0.false c.if-s-eq32.false (sym c.is_space.ensures ∙ c.if-is_space.true)
+pub returns-in_default : goal.returns-in_default
+returns-in_default c = white_reads _ _ (rw (← c.in-Some.ensures.value, ← c.if-is_space.ensures, ne_eqb 32 c.in-Some.b.now (λ e. c.in-Some.b-test.1 (sym e))))
 
-pub returns : goal.returns
-returns c = white_not _ c.if-s-eq0.false c.if-s-eq32.false (sym c.is_space.ensures ∙ c.if-is_space.false)
+pub returns-in_default-2 : goal.returns-in_default-2
+returns-in_default-2 c = let none = rw c.in_default.is at c.first.ensures.value in white_reads _ _ (rw (← none))

@@ -1,0 +1,6 @@
+-- `then_word` meets its contract: the closure reads what is asked for.
+use Rattle.std.proofs.Common.{rules}
+use Rattle.lexis.proofs.bytes.then_word.Goals as goal
+
+pub returns : goal.returns
+returns c = c.then.ensures _ (search rules)
