@@ -1,5 +1,5 @@
 -- What a head's keyword draws, and a head's answer from its parts.
-use Rattle.std.specs.Prelude.{ℕ, ◌≡◌, refl, List, Bool, true, false}
+use Rattle.std.specs.Prelude.{ℕ, ◌≡◌, List, true}
 use Rattle.std.proofs.Common.{ap, sym, subst, ◌∙◌}
 use Rattle.meaning.specs.declared.Match.{Match}
 use Rattle.meaning.specs.declared.Match.TheVariants.{Took}
@@ -10,10 +10,12 @@ use Rattle.meaning.specs.Forest.{nil, tree, nodes}
 use Rattle.meaning.specs.Pdl.{constraint_list}
 use Rattle.grammar.specs.Matching.{Reads}
 use Rattle.grammar.specs.Drawing.{Draws, Follows, from_start, leaf}
+use Rattle.spans.specs.declared.Matched.{Matched}
 use Rattle.spans.specs.declared.Header.{Header}
 use Rattle.spans.specs.Spans.{span_of}
 use Rattle.spans.specs.Drawn.{leaf_at, draw_header}
 use Rattle.spans.specs.Answers.{Headed, MatchedPart, no_header, answer}
+use Rattle.declarations.specs.Headers.{Kept}
 
 -- a keyword at the front
 pub word : {g : Peg} {t : List ℕ} {r : Match} {k : Rule}
@@ -21,14 +23,9 @@ pub word : {g : Peg} {t : List ℕ} {r : Match} {k : Rule}
     → Reads g t r → Follows (Took 0 0) g t r (λ o. leaf_at k o (span_of (Took 0 0) r))
 word e h = leaf e (from_start h)
 
--- r is what is kept of the head h
-pub headed : {k : Rule} {g : Peg} {t : List ℕ} {r : Header} (h : Header) → Draws g t h.at (λ o. draw_header k o t h)
-    → (hit h.at ≡ true → MatchedPart constraint_list t h.constraints) → r ≡ pick (hit h.at) h (no_header h.at) → Headed k g t r
-headed {k} {g} {t} {r} h d s e =
-    let same : h.at ≡ r.at = go (hit h.at) ∙ ap (λ (z : Header). z.at) (sym e) in
-    answer h (subst (λ (z : Match). Draws g t z (λ o. draw_header k o t h)) same d) (λ q. s (ap hit same ∙ q))
-    (e ∙ ap (λ (z : Match). pick (hit z) h (no_header z)) same)
-  where
-    go : (b : Bool) → h.at ≡ (pick b h (no_header h.at)).at
-    go true = refl
-    go false = refl
+-- r answers the head h, where its match m took
+pub headed : {k : Rule} {g : Peg} {t : List ℕ} {m : Match} {h : Header} {r : Matched Header} → Draws g t m (λ o. draw_header k o t h)
+    → (hit m ≡ true → MatchedPart constraint_list t h.constraints) → Kept m h r → Headed k g t r
+headed {k} {g} {t} {m} {h} {r} d s e =
+    answer h (subst (λ (x : Match). Draws g t x (λ o. draw_header k o t h)) (sym e.same) d) (λ q. s (ap hit (sym e.same) ∙ q))
+    (e.kept ∙ ap (λ (x : Match). pick (hit x) h no_header) (sym e.same))

@@ -1,32 +1,29 @@
 -- The kinds of declarations by the bytes in front: where those stand, only one kind is left of the choice.
-use Rattle.std.specs.Prelude.{ℕ, ◌<◌, ◌≡◌, refl, List, [], ◌∷◌, Bool, true, false, length, get_or}
-use Rattle.std.proofs.Common.{arith, ap, sym, ◌∙◌, eq-eqb, ne_eqb}
+use Rattle.std.specs.Prelude.{ℕ, ◌≡◌, refl, List, [], ◌∷◌, Bool, true, false, eqb, Option, None, Some, slice_get}
+use Rattle.std.specs.List.{starts_with}
+use Rattle.std.proofs.Common.{ap, sym, ◌∙◌, eq-eqb, ne_eqb}
 use Rattle.meaning.specs.declared.Match.{Match}
-use Rattle.meaning.specs.declared.Match.TheVariants.{Missed, Took}
+use Rattle.meaning.specs.declared.Match.TheVariants.{Missed}
 use Rattle.meaning.specs.Choice.{both, either}
 use Rattle.meaning.specs.Quoted.{bytes}
-use Rattle.meaning.specs.Peg.{Peg, lit, prefixb, run, bytewise, hit}
+use Rattle.meaning.specs.Peg.{Peg, prefixb, run, bytewise}
 use Rattle.meaning.specs.Pdl.{rules, enum_declaration, packet_declaration, struct_declaration, group_declaration, checksum_declaration, custom_field_declaration, test_declaration, declaration}
 use Rattle.grammar.specs.Matching.{Reads}
 use Rattle.grammar.specs.Picks.{both_1, both_2}
-use Rattle.grammar.specs.Hits.{hit_lit}
 use Rattle.grammar.specs.Steps.{reads}
 use Rattle.grammar.specs.Openings.{longer, clash, clashes, opens, misses}
 use Rattle.grammar.specs.Choices.{left}
+use Rattle.lexis.specs.Prefixes.{starts}
 use Rattle.grammar.specs.Marks.{marks_misses, marks_matches, alone}
 
 -- ---- the byte in front
-pub front_none : (t : List ℕ) → length t ≡ 0 → 0 ≡ get_or t 0 0
-front_none [] e = refl
-front_none (y ∷ t) e = absurd (omega arith)
+front_is : (t : List ℕ) (x : ℕ) → Some x ≡ slice_get t 0 → prefixb (x ∷ []) t ≡ true
+front_is [] x e = cc
+front_is (y ∷ t) x e = let q : x ≡ y = cc in rw (eq-eqb x y q)
 
-front_is : (t : List ℕ) (x : ℕ) → 0 < x → get_or t 0 0 ≡ x → prefixb (x ∷ []) t ≡ true
-front_is [] x p e = absurd (omega (arith, e))
-front_is (y ∷ t) x p e = rw (eq-eqb x y (sym e))
-
-front_not : (t : List ℕ) (x : ℕ) → (get_or t 0 0 ≡ x → ⊥) → prefixb (x ∷ []) t ≡ false
+front_not : (t : List ℕ) (x : ℕ) → (Some x ≡ slice_get t 0 → ⊥) → prefixb (x ∷ []) t ≡ false
 front_not [] x n = refl
-front_not (y ∷ t) x n = rw (ne_eqb x y (λ e. n (sym e)))
+front_not (y ∷ t) x n = rw (ne_eqb x y (λ e. n (ap (λ (z : ℕ). Some z) e)))
 
 -- ---- words that q tells, none of which stands at t
 pub record Gone (q : List ℕ → Bool) (t : List ℕ) : Type 0 where
@@ -45,18 +42,15 @@ nor w {q} {t} h k = record { gone = λ l e. go l (prefixb w l) refl e }
     go l false i e = k.gone l e
 
 -- the byte in front, or two
-pub by_byte : {t : List ℕ} {b : ℕ} (x : ℕ) → 0 < x → b ≡ get_or t 0 0 → b ≡ x → Gone (clash (x ∷ [])) t
-by_byte {t} x p h e = stands (x ∷ []) (front_is t x p (sym h ∙ e))
+pub by_byte : {t : List ℕ} {b : ℕ} (x : ℕ) → Some b ≡ slice_get t 0 → b ≡ x → Gone (clash (x ∷ [])) t
+by_byte {t} x h e = stands (x ∷ []) (front_is t x (ap (λ (z : ℕ). Some z) (sym e) ∙ h))
 
-module _ {w t : List ℕ} {x : Match} (h : Reads (lit w) t x) where
-  by_text : prefixb w t ≡ hit x
-  by_text = sym (hit_lit w t) ∙ ap hit (sym h.is)
+module _ (w : List ℕ) {t : List ℕ} where
+  pub with_text : true ≡ starts_with eqb t w → Gone (clash w) t
+  with_text e = stands w (sym (e ∙ starts w t))
 
-  pub with_text : (n f : ℕ) → x ≡ Took n f → Gone (clash w) t
-  with_text n f e = stands w (by_text ∙ ap hit e)
-
-  pub without_text : {q : List ℕ → Bool} (f : ℕ) → x ≡ Missed f → Gone q t → Gone (λ l. either (prefixb w l) (q l)) t
-  without_text f e k = nor w (by_text ∙ ap hit e) k
+  pub without_text : {q : List ℕ → Bool} → false ≡ starts_with eqb t w → Gone q t → Gone (λ l. either (prefixb w l) (q l)) t
+  without_text e k = nor w (sym (e ∙ starts w t)) k
 
 -- ---- what is gone, and the kind that is left
 pub data Only : (List ℕ → Bool) → Peg → Type 0 where
@@ -111,10 +105,19 @@ all_six : opens six (bytewise declaration) ≡ true
 unfolding rules
 all_six = refl
 
-pub kind_none : {t : List ℕ} {b : ℕ} → b ≡ get_or t 0 0 → (b ≡ 101 → ⊥) → (b ≡ 112 → ⊥) → (b ≡ 115 → ⊥) → (b ≡ 103 → ⊥) → (b ≡ 116 → ⊥) → (b ≡ 99 → ⊥)
-    → Reads declaration t (Missed 1)
-kind_none {t} {b} h e p s g k c =
-    let not : (x : ℕ) → (b ≡ x → ⊥) → prefixb (x ∷ []) t ≡ false = λ x n. front_not t x (λ i. n (h ∙ i)) in
-    let all = nor (bytes "e") (not 101 e) (nor (bytes "p") (not 112 p) (nor (bytes "s") (not 115 s)
-    (nor (bytes "g") (not 103 g) (nor (bytes "c") (not 99 c) (nor (bytes "t") (not 116 k) nothing))))) in
+kind_none : {t : List ℕ} → ((x : ℕ) → six (x ∷ []) ≡ true → Some x ≡ slice_get t 0 → ⊥) → Reads declaration t (Missed 1)
+kind_none {t} n =
+    let not : (x : ℕ) → six (x ∷ []) ≡ true → prefixb (x ∷ []) t ≡ false = λ x e. front_not t x (n x e) in
+    let all = nor (bytes "e") (not 101 refl) (nor (bytes "p") (not 112 refl) (nor (bytes "s") (not 115 refl)
+    (nor (bytes "g") (not 103 refl) (nor (bytes "c") (not 99 refl) (nor (bytes "t") (not 116 refl) nothing))))) in
     reads declaration t (Missed 1) (sym (misses six t all.gone (bytewise declaration) all_six))
+
+pub kind_empty : {t : List ℕ} → None ≡ slice_get t 0 → Reads declaration t (Missed 1)
+kind_empty h = kind_none (λ x e i. cc)
+
+pub kind_other : {t : List ℕ} {b : ℕ} → Some b ≡ slice_get t 0 → (b ≡ 101 → ⊥) → (b ≡ 112 → ⊥) → (b ≡ 115 → ⊥) → (b ≡ 103 → ⊥) → (b ≡ 116 → ⊥) → (b ≡ 99 → ⊥)
+    → Reads declaration t (Missed 1)
+kind_other {t} {b} h e p s g k c =
+    let no : (x : ℕ) → (b ≡ x → ⊥) → eqb x b ≡ false = λ x n. ne_eqb x b (λ i. n (sym i)) in
+    let o : six (b ∷ []) ≡ false = rw (no 101 e, no 112 p, no 115 s, no 103 g, no 116 k, no 99 c) in
+    kind_none (λ x w i. let q : x ≡ b = cc in let z : true ≡ false = sym w ∙ ap (λ (y : ℕ). six (y ∷ [])) q ∙ o in cc)

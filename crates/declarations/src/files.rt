@@ -1,35 +1,37 @@
 // The file: its endianness line, its declarations, and where they stop.
-ghost use Rattle.std.specs.Prelude.{◌≡◌};
-ghost use Rattle.meaning.specs.Choice.{pick};
-ghost use Rattle.meaning.specs.Peg.{seq, alt, star, hit, taken};
-ghost use Rattle.meaning.specs.Pdl.{text, repeat, skip, endianness_declaration, declaration, EOI};
+ghost use Rattle.meaning.specs.Peg.{alt};
+ghost use Rattle.meaning.specs.Pdl.{text, repeat, endianness_declaration, declaration, EOI};
 ghost use Rattle.grammar.specs.Matching.{Within, Reads, Steps};
 ghost use Rattle.declarations.specs.Files.{Files};
 
 use crate::then_declaration;
-use grammar::{joined, optional};
+use grammar::{optional, then};
 use lexis::blanks::then_blanks;
-use lexis::texts::then_literal;
+use lexis::lists::then_many;
+use lexis::texts::either_literal;
 use lexis::tokens::then_whitespace;
 use meaning::Match;
+use spans::kept;
 
-// The match of a file, and 01's place of 3 for where it missed.
+// The match of a file, and 01's place of 3 for where it missed. It is no `Matched`, whose value says nothing of a miss.
 #[derive(Clone, Copy)]
 pub struct FileMatch {
     pub at: Match,
     pub place: usize,
 }
 
-// The two words of the endianness, where m ends.
-fn then_endianness(s: &[u8], m: Match) -> Match
-    requires { Within m s.now }
-    ensures { Steps m (alt (text "little_endian_packets") (text "big_endian_packets")) s.now result }
+// The two words of the endianness.
+fn endianness(s: &[u8]) -> Match
+    ensures { Reads (alt (text "little_endian_packets") (text "big_endian_packets")) s.now result }
 {
-    let x = then_literal(s, m, b"little_endian_packets");
-    if let Match::Took(_, _) = x {
-        return x;
-    }
-    then_literal(s, optional(s, m, x), b"big_endian_packets")
+    either_literal(s, b"little_endian_packets", b"big_endian_packets")
+}
+
+// The endianness line at the front.
+pub fn endianness_declaration(s: &[u8]) -> Match
+    ensures { Reads endianness_declaration s.now result }
+{
+    then_whitespace(s, endianness(s))
 }
 
 // The endianness line, where m ends.
@@ -37,29 +39,7 @@ fn then_endianness_declaration(s: &[u8], m: Match) -> Match
     requires { Within m s.now }
     ensures { Steps m endianness_declaration s.now result }
 {
-    then_whitespace(s, then_endianness(s, m))
-}
-
-// The endianness line at the front.
-pub fn endianness_declaration(s: &[u8]) -> Match
-    ensures { Reads endianness_declaration s.now result }
-{
-    then_endianness_declaration(s, Match::Took(0, 0))
-}
-
-// As many further declarations as follow m.
-fn then_more(s: &[u8], m: Match) -> Match
-    requires { Within m s.now }
-    ensures { Steps m (star (seq skip declaration)) s.now result }
-{
-    let mut at = m;
-    loop {
-        let next = then_declaration(s, then_blanks(s, at));
-        match next {
-            Match::Missed(_) => return optional(s, at, next),
-            Match::Took(_, _) => at = next,
-        }
-    }
+    then(s, m, endianness_declaration)
 }
 
 // All declarations that follow m, each matched once.
@@ -67,14 +47,14 @@ fn then_declarations(s: &[u8], m: Match) -> Match
     requires { Within m s.now }
     ensures { Steps m (repeat declaration) s.now result }
 {
-    optional(s, m, then_more(s, then_declaration(s, m)))
+    optional(s, m, then_many(s, then_declaration(s, m), then_declaration))
 }
 
 // The end of input.
-fn end_of_input(s: &[u8]) -> Match
+pub fn end_of_input(s: &[u8]) -> Match
     ensures { Reads EOI s.now result }
 {
-    if s.len() == 0 {
+    if s.is_empty() {
         return Match::Took(0, 0);
     }
     Match::Missed(1)
@@ -85,24 +65,10 @@ fn then_end(s: &[u8], m: Match) -> Match
     requires { Within m s.now }
     ensures { Steps m EOI s.now result }
 {
-    match m {
-        Match::Missed(f) => Match::Missed(f),
-        Match::Took(n, f) => joined(s, n, f, end_of_input(&s[n..])),
-    }
+    then(s, m, end_of_input)
 }
 
-// Where head ended, if there is the endianness line; else where start did.
-fn place_of(line: Match, head: Match, start: Match) -> usize
-    ensures { result ≡ pick (hit line) (taken head) (taken start) }
-{
-    let there = grammar::took(line);
-    if there {
-        return grammar::taken(head);
-    }
-    grammar::taken(start)
-}
-
-// A whole file.
+// A whole file. Its place is where head ended, if there is the endianness line; else where start did.
 pub fn file(s: &[u8]) -> FileMatch
     ensures { Files s.now result }
 {
@@ -111,6 +77,6 @@ pub fn file(s: &[u8]) -> FileMatch
     let head = then_blanks(s, then_declarations(s, then_blanks(s, line)));
     FileMatch {
         at: then_end(s, head),
-        place: place_of(line, head, start),
+        place: kept(line, head.taken(), start.taken()),
     }
 }

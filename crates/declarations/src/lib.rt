@@ -1,7 +1,6 @@
 // Declarations: the seven kinds, and the choice between them.
 #![tactic(auto)]
 
-ghost use Rattle.std.specs.Prelude.{◌≡◌, get_or};
 ghost use Rattle.meaning.specs.Peg.{seq, opt};
 ghost use Rattle.meaning.specs.Pdl.{skip, field_list, enum_declaration, packet_declaration, struct_declaration, group_declaration, checksum_declaration, custom_field_declaration, declaration};
 ghost use Rattle.grammar.specs.Matching.{Within, Reads, Steps};
@@ -11,9 +10,8 @@ use crate::headers::{
 };
 use crate::tests::test_declaration;
 use fields::then_field_list;
-use grammar::{joined, optional};
+use grammar::{optional, then};
 use lexis::blanks::{next_literal, then_blanks};
-use lexis::texts::literal;
 use meaning::Match;
 use tags::then_enum_tag_list;
 
@@ -25,9 +23,11 @@ pub mod tests;
 pub fn enum_declaration(s: &[u8]) -> Match
     ensures { Reads enum_declaration s.now result }
 {
-    let h = enum_head(s);
-    let head = h.at;
-    next_literal(s, then_enum_tag_list(s, then_blanks(s, head)), b"}")
+    next_literal(
+        s,
+        then_enum_tag_list(s, then_blanks(s, enum_head(s).at)),
+        b"}",
+    )
 }
 
 // The fields of a packet or a struct, which may have none, where m ends.
@@ -43,53 +43,39 @@ fn next_fields(s: &[u8], m: Match) -> Match
 pub fn packet_declaration(s: &[u8]) -> Match
     ensures { Reads packet_declaration s.now result }
 {
-    let h = packet_head(s);
-    let head = h.at;
-    next_literal(s, next_fields(s, head), b"}")
+    next_literal(s, next_fields(s, packet_head(s).at), b"}")
 }
 
 // A struct.
 pub fn struct_declaration(s: &[u8]) -> Match
     ensures { Reads struct_declaration s.now result }
 {
-    let h = struct_head(s);
-    let head = h.at;
-    next_literal(s, next_fields(s, head), b"}")
+    next_literal(s, next_fields(s, struct_head(s).at), b"}")
 }
 
 // A group.
 pub fn group_declaration(s: &[u8]) -> Match
     ensures { Reads group_declaration s.now result }
 {
-    let h = group_head(s);
-    let head = h.at;
-    next_literal(s, then_field_list(s, then_blanks(s, head)), b"}")
+    next_literal(
+        s,
+        then_field_list(s, then_blanks(s, group_head(s).at)),
+        b"}",
+    )
 }
 
 // A checksum.
 pub fn checksum_declaration(s: &[u8]) -> Match
     ensures { Reads checksum_declaration s.now result }
 {
-    let h = checksum_head(s);
-    h.at
+    checksum_head(s).at
 }
 
 // A custom field.
 pub fn custom_field_declaration(s: &[u8]) -> Match
     ensures { Reads custom_field_declaration s.now result }
 {
-    let h = custom_field_head(s);
-    h.at
-}
-
-// The first byte, or 0 where there is none.
-fn front(s: &[u8]) -> u8
-    ensures { result ≡ get_or s.now 0 0 }
-{
-    if s.len() == 0 {
-        return 0;
-    }
-    s[0]
+    custom_field_head(s).at
 }
 
 // A declaration, by its first bytes. A kind that cannot stand here would miss at once; the one that can is tried farther, so
@@ -97,21 +83,19 @@ fn front(s: &[u8]) -> u8
 pub fn declaration(s: &[u8]) -> Match
     ensures { Reads declaration s.now result }
 {
-    let byte = front(s);
-    match byte {
-        b'e' => return enum_declaration(s),
-        b'p' => return packet_declaration(s),
-        b's' => return struct_declaration(s),
-        b'g' => return group_declaration(s),
-        b't' => return test_declaration(s),
-        b'c' => {}
-        _ => return Match::Missed(1),
+    let Some(first) = s.first() else {
+        return Match::Missed(1);
+    };
+    match *first {
+        b'e' => enum_declaration(s),
+        b'p' => packet_declaration(s),
+        b's' => struct_declaration(s),
+        b'g' => group_declaration(s),
+        b't' => test_declaration(s),
+        b'c' if s.starts_with(b"cu") => custom_field_declaration(s),
+        b'c' => checksum_declaration(s),
+        _ => Match::Missed(1),
     }
-    let custom = literal(s, b"cu");
-    if let Match::Took(_, _) = custom {
-        return custom_field_declaration(s);
-    }
-    checksum_declaration(s)
 }
 
 // A declaration, where m ends.
@@ -119,8 +103,5 @@ pub fn then_declaration(s: &[u8], m: Match) -> Match
     requires { Within m s.now }
     ensures { Steps m declaration s.now result }
 {
-    match m {
-        Match::Missed(f) => Match::Missed(f),
-        Match::Took(n, f) => joined(s, n, f, declaration(&s[n..])),
-    }
+    then(s, m, declaration)
 }

@@ -1,12 +1,11 @@
 // Test declarations: they must match, and add no row.
-ghost use Rattle.meaning.specs.Peg.{seq, star};
-ghost use Rattle.meaning.specs.Pdl.{text, ◌~◌, skip, test_case, test_case_list, test_declaration};
+ghost use Rattle.meaning.specs.Pdl.{test_case, test_case_list, test_declaration};
 ghost use Rattle.grammar.specs.Matching.{Within, Reads, Steps};
 
-use grammar::optional;
+use grammar::then;
 use lexis::blanks::{next_literal, then_blanks, then_last_comma};
-use lexis::texts::then_literal;
-use lexis::tokens::{keyword, next_identifier, string, then_string};
+use lexis::lists::then_list;
+use lexis::tokens::{keyword, next_identifier, string};
 use meaning::Match;
 
 // A test case at the front.
@@ -21,30 +20,7 @@ fn then_test_case(s: &[u8], m: Match) -> Match
     requires { Within m s.now }
     ensures { Steps m test_case s.now result }
 {
-    then_string(s, m)
-}
-
-// A comma and a test case, where m ends.
-fn then_comma(s: &[u8], m: Match) -> Match
-    requires { Within m s.now }
-    ensures { Steps m (text "," ~ test_case) s.now result }
-{
-    then_test_case(s, then_blanks(s, then_literal(s, m, b",")))
-}
-
-// As many commas and test cases as follow m.
-fn then_commas(s: &[u8], m: Match) -> Match
-    requires { Within m s.now }
-    ensures { Steps m (star (seq skip (text "," ~ test_case))) s.now result }
-{
-    let mut at = m;
-    loop {
-        let next = then_comma(s, then_blanks(s, at));
-        match next {
-            Match::Missed(_) => return optional(s, at, next),
-            Match::Took(_, _) => at = next,
-        }
-    }
+    then(s, m, test_case)
 }
 
 // A list of test cases, which may have a last comma, where m ends.
@@ -52,9 +28,7 @@ fn then_test_case_list(s: &[u8], m: Match) -> Match
     requires { Within m s.now }
     ensures { Steps m test_case_list s.now result }
 {
-    let b = then_blanks(s, then_test_case(s, m));
-    let all = optional(s, b, then_commas(s, then_comma(s, b)));
-    then_last_comma(s, all)
+    then_last_comma(s, then_list(s, m, then_test_case))
 }
 
 // A list of test cases at the front.

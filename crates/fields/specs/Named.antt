@@ -15,7 +15,8 @@ use Rattle.grammar.specs.Fits.{lift_0}
 use Rattle.grammar.specs.Steps.{link, start, reads_rule}
 use Rattle.grammar.specs.Nodes.{nil_right}
 use Rattle.grammar.specs.Drawing.{Draws, Follows, then, whole, draws_rule, second, other, retold}
-use Rattle.spans.specs.declared.DescMatch.{DescMatch}
+use Rattle.spans.specs.declared.Matched.{Matched}
+use Rattle.spans.specs.declared.FieldDesc.{FieldDesc}
 use Rattle.spans.specs.declared.Span.{Span}
 use Rattle.spans.specs.declared.Operand.{Operand}
 use Rattle.spans.specs.declared.ArraySize.{ArraySize}
@@ -25,7 +26,6 @@ use Rattle.spans.specs.Drawn.{leaf_at, draw_operand, draw_array_size}
 use Rattle.spans.specs.Parts.{gap, mark, name, number}
 use Rattle.spans.specs.Answers.{Continues, Free, Described}
 use Rattle.grammar.specs.Shared.{afresh, halted, second_rule}
-use Rattle.fields.specs.declared.parts.SizeMatch.{SizeMatch}
 use Rattle.fields.specs.Kinds.{EarlierMark, answers_later}
 use Rattle.grammar.specs.Behind.{behind, behind_or, behind_both, last}
 
@@ -34,7 +34,8 @@ unfoldable pub named_fields : Peg
 named_fields = array_field ∣ (scalar_field ∣ typedef_field) ∣ group_field
 
 -- behind a choice that missed they are its last parts
-pub or_named : {a : Peg} {t : List ℕ} {x : Match} {d r : DescMatch} (f : ℕ) → Reads a t x → x ≡ Missed f → Described named_fields t d → EarlierMark f d r
+pub or_named : {a : Peg} {t : List ℕ} {x : Match} {d r : Matched FieldDesc} (f : ℕ) → Reads a t x → x ≡ Missed f → Described named_fields t d
+    → EarlierMark f d r
     → Described (a ∣ array_field ∣ scalar_field ∣ typedef_field ∣ group_field) t r
 unfolding named_fields
 or_named {a} {t} f h e k m =
@@ -51,10 +52,10 @@ abbrev pub brackets : Peg
 brackets = seq skip (text "[") ~ opt (size_modifier ∣ integer) ~ text "]"
 
 -- r goes on from x over these, and so does each expression that ends at x
-pub record Bracketed (x : Match) (t : List ℕ) (r : SizeMatch) : Type 0 where
-  pub answers : Continues x brackets t r.at (λ z o. draw_array_size o z) Free Unknown r.size
+pub record Bracketed (x : Match) (t : List ℕ) (r : Matched ArraySize) : Type 0 where
+  pub answers : Continues x brackets t r.at (λ z o. draw_array_size o z) Free Unknown r.value
   pub on : {m : Match} {a : Peg} {v : ℕ → Forest} → Follows m a t x v
-      → Follows m (a ~ text "[" ~ opt (size_modifier ∣ integer) ~ text "]") t r.at (λ o. v o ⊕ draw_array_size o r.size)
+      → Follows m (a ~ text "[" ~ opt (size_modifier ∣ integer) ~ text "]") t r.at (λ o. v o ⊕ draw_array_size o r.value)
 
 -- what ends at x with its brackets, whose size is kept where they took
 pub closed : {m x l y r : Match} {a : Peg} {t : List ℕ} {v : ℕ → Forest} {kept : ArraySize} (found : ArraySize) → Follows m a t x v
@@ -68,13 +69,13 @@ closed {r = r} {v = v} found f left size right e =
     ∙ ap₂ ◌⊕◌ (nil_right (v o)) (ap (λ (z : ArraySize). draw_array_size o z) (sym (e ∙ pick_true (hit r) found Unknown h))))
 
 -- an array is an element with brackets
-pub arrayed : {t : List ℕ} {x : Match} {r : SizeMatch} {v : ℕ → Forest} → Follows (Took 0 0) typed t x v → Bracketed x t r
-    → Draws array_field t r.at (λ o. tree Rule.array_field o (taken r.at) (v o ⊕ draw_array_size o r.size) nil)
+pub arrayed : {t : List ℕ} {x : Match} {r : Matched ArraySize} {v : ℕ → Forest} → Follows (Took 0 0) typed t x v → Bracketed x t r
+    → Draws array_field t r.at (λ o. tree Rule.array_field o (taken r.at) (v o ⊕ draw_array_size o r.value) nil)
 unfolding array_field
 arrayed f b = draws_rule Rule.array_field refl (whole (b.on f))
 
 -- where d answers b, and its match is that of an element with the name id, r answers an array or b
-pub record OrArray (d : DescMatch) (id : Span) (element : Operand) (t : List ℕ) (r : DescMatch) : Type 0 where
+pub record OrArray (d : Matched FieldDesc) (id : Span) (element : Operand) (t : List ℕ) (r : Matched FieldDesc) : Type 0 where
   pub or : {b c : Peg} (n f : ℕ) → d.at ≡ Took n f → Follows (Took 0 0) typed t d.at (λ o. leaf_at Rule.identifier o id ⊕ draw_operand o element)
       → Described b t d → Described (array_field ∣ b ∣ c) t r
 

@@ -9,32 +9,28 @@ use grammar::optional;
 use lexis::blanks::then_blanks;
 use lexis::tokens::{then_identifier, then_integer};
 use meaning::Match;
-use spans::{DescMatch, FieldDesc, Operand, Span, between};
+use spans::{FieldDesc, Matched, Operand, Span, between};
 
 // An array of the element, where brackets follow d, which is the kind without them.
-fn or_array(s: &[u8], d: DescMatch, id: Span, element: Operand) -> DescMatch
+fn or_array(s: &[u8], d: Matched<FieldDesc>, id: Span, element: Operand) -> Matched<FieldDesc>
     requires { Within d.at s.now }
     ensures { OrArray d id element s.now result }
 {
-    let end = d.at;
-    let size = then_brackets(s, end);
-    let at = size.at;
-    if let Match::Took(_, _) = at {
-        let found = size.size;
-        return DescMatch {
-            at,
-            desc: FieldDesc::Array(id, element, found),
+    let size = then_brackets(s, d.at);
+    if let Match::Took(_, _) = size.at {
+        return Matched {
+            at: size.at,
+            value: FieldDesc::Array(id, element, size.value),
         };
     }
-    let desc = d.desc;
-    DescMatch {
-        at: optional(s, end, at),
-        desc,
+    Matched {
+        at: optional(s, d.at, size.at),
+        value: d.value,
     }
 }
 
 // An array, a scalar, a typedef or a group.
-pub fn named_field(s: &[u8]) -> DescMatch
+pub fn named_field(s: &[u8]) -> Matched<FieldDesc>
     ensures { Described named_fields s.now result }
 {
     let start = Match::Took(0, 0);
@@ -44,9 +40,9 @@ pub fn named_field(s: &[u8]) -> DescMatch
     let width = then_integer(s, b);
     if let Match::Took(_, _) = width {
         let span = between(b, width);
-        let scalar = DescMatch {
+        let scalar = Matched {
             at: width,
-            desc: FieldDesc::Scalar(id, span),
+            value: FieldDesc::Scalar(id, span),
         };
         return or_array(s, scalar, id, Operand::Integer(span));
     }
@@ -54,14 +50,12 @@ pub fn named_field(s: &[u8]) -> DescMatch
     let name = then_identifier(s, c);
     if let Match::Took(_, _) = name {
         let span = between(c, name);
-        let typedef = DescMatch {
+        let typedef = Matched {
             at: name,
-            desc: FieldDesc::Typedef(id, span),
+            value: FieldDesc::Typedef(id, span),
         };
         return or_array(s, typedef, id, Operand::Identifier(span));
     }
     let group = then_braces(s, optional(s, a, name));
-    let at = group.at;
-    let list = group.list;
-    described(at, FieldDesc::Group(id, list))
+    described(group.at, FieldDesc::Group(id, group.value))
 }

@@ -1,6 +1,6 @@
 -- What the matchers answer: a match, and parts that draw its nodes. A matcher that missed answers absent parts, and a list
 -- that is kept by its span stands there, whole; so the text settles every answer (Settled).
-use Rattle.std.specs.Prelude.{ℕ, ◌≡◌, refl, List, Bool, true, false, drop}
+use Rattle.std.specs.Prelude.{ℕ, ◌≡◌, refl, List, Bool, true, false, drop, Option, None, Some}
 use Rattle.std.proofs.Common.{ap, sym, subst, ◌∙◌}
 use Rattle.meaning.specs.declared.Match.{Match}
 use Rattle.meaning.specs.declared.Match.TheVariants.{Took}
@@ -12,20 +12,15 @@ use Rattle.meaning.specs.Pdl.{enum_value_list, constraint, constraint_list, fiel
 use Rattle.grammar.specs.Matching.{Steps}
 use Rattle.grammar.specs.Hits.{no_miss}
 use Rattle.grammar.specs.Drawing.{Draws, Follows, part_hit, part_taken, whole, redrawn, retold}
+use Rattle.spans.specs.declared.Matched.{Matched}
 use Rattle.spans.specs.declared.Span.{Span}
-use Rattle.spans.specs.declared.Part.{Part}
-use Rattle.spans.specs.declared.Part.TheVariants.{Absent, Here}
 use Rattle.spans.specs.declared.Operand.TheVariants.{Identifier}
 use Rattle.spans.specs.declared.Constraint.{Constraint}
-use Rattle.spans.specs.declared.ConstraintMatch.{ConstraintMatch}
-use Rattle.spans.specs.declared.Condition.TheVariants.{Always}
 use Rattle.spans.specs.declared.Tag.{Tag}
 use Rattle.spans.specs.declared.Tag.TheVariants.{Value, Range, Other}
-use Rattle.spans.specs.declared.TagMatch.{TagMatch}
 use Rattle.spans.specs.declared.FieldDesc.{FieldDesc}
 use Rattle.spans.specs.declared.FieldDesc.TheVariants.{Checksum, Padding, Size, Count, ElementSize, Body, Payload, FixedScalar, FixedEnum, Reserved, Array, Scalar, Typedef, Group}
-use Rattle.spans.specs.declared.DescMatch.{DescMatch}
-use Rattle.spans.specs.declared.FieldMatch.{FieldMatch}
+use Rattle.spans.specs.declared.Field.{Field}
 use Rattle.spans.specs.declared.Header.{Header}
 use Rattle.spans.specs.Spans.{span_of}
 use Rattle.spans.specs.Drawn.{draw_constraint, draw_tag, draw_desc, draw_field, draw_header}
@@ -43,13 +38,13 @@ pub record Continues {A : Type 0} (m : Match) (g : Peg) (t : List ℕ) (r : Matc
   pub missed : hit r ≡ false → x ≡ absent
 
 -- a list that a part says is matched where it stands, up to its end
-pub record Matched (g : Peg) (t : List ℕ) (s : Span) : Type 0 where
+pub record MatchedList (g : Peg) (t : List ℕ) (s : Span) : Type 0 where
   pub there : hit (run (bytewise g) (drop s.start t)) ≡ true
   pub ends : taken (run (bytewise g) (drop s.start t)) ≡ s.len
 
-abbrev pub MatchedPart : Peg → List ℕ → Part → Type 0
-MatchedPart g t Absent = Unit {0}
-MatchedPart g t (Here s) = Matched g t s
+abbrev pub MatchedPart : Peg → List ℕ → Option Span → Type 0
+MatchedPart g t None = Unit {0}
+MatchedPart g t (Some s) = MatchedList g t s
 
 -- ---- what is absent, and which lists are sound, for each answer
 abbrev pub nowhere : Span
@@ -61,18 +56,9 @@ no_constraint = record { span = nowhere; id = nowhere; value = Identifier nowher
 abbrev pub no_tag : Tag
 no_tag = Other (record { id = nowhere })
 
--- the head of no declaration, which missed as m
-abbrev pub no_header : Match → Header
-no_header m =
-    record {
-      at = m;
-      keyword = nowhere;
-      id = nowhere;
-      parent = Absent;
-      width = Absent;
-      function = Absent;
-      constraints = Absent;
-    }
+-- the head of no declaration
+abbrev pub no_header : Header
+no_header = record { keyword = nowhere; id = nowhere; parent = None; width = None; function = None; constraints = None }
 
 abbrev pub SoundTag : List ℕ → Tag → Type 0
 SoundTag t (Value v) = Unit {0}
@@ -80,46 +66,46 @@ SoundTag t (Range r) = MatchedPart enum_value_list t r.tags
 SoundTag t (Other x) = Unit {0}
 
 -- the list of a group; no other description has one
-abbrev pub desc_list : FieldDesc → Part
-desc_list (Checksum id) = Absent
-desc_list (Padding size) = Absent
-desc_list (Size id width) = Absent
-desc_list (Count id width) = Absent
-desc_list (ElementSize id width) = Absent
-desc_list Body = Absent
-desc_list (Payload modifier) = Absent
-desc_list (FixedScalar value width) = Absent
-desc_list (FixedEnum tag type) = Absent
-desc_list (Reserved width) = Absent
-desc_list (Array id element size) = Absent
-desc_list (Scalar id width) = Absent
-desc_list (Typedef id type) = Absent
+abbrev pub desc_list : FieldDesc → Option Span
+desc_list (Checksum id) = None
+desc_list (Padding size) = None
+desc_list (Size id width) = None
+desc_list (Count id width) = None
+desc_list (ElementSize id width) = None
+desc_list Body = None
+desc_list (Payload modifier) = None
+desc_list (FixedScalar value width) = None
+desc_list (FixedEnum tag type) = None
+desc_list (Reserved width) = None
+desc_list (Array id element size) = None
+desc_list (Scalar id width) = None
+desc_list (Typedef id type) = None
 desc_list (Group id list) = list
 
 -- ---- the answers
 abbrev pub Free : {A : Type 0} → A → Type 0
 Free x = Unit {0}
 
-abbrev pub Constrained : List ℕ → ConstraintMatch → Type 0
-Constrained t r = Answers constraint t r.at (λ c o. draw_constraint o c) Free no_constraint r.constraint
+abbrev pub Constrained : List ℕ → Matched Constraint → Type 0
+Constrained t r = Answers constraint t r.at (λ c o. draw_constraint o c) Free no_constraint r.value
 
-abbrev pub Tagged : Peg → List ℕ → TagMatch → Type 0
-Tagged g t r = Answers g t r.at (λ x o. draw_tag o t (taken r.at) x) (λ x. SoundTag t x) no_tag r.tag
+abbrev pub Tagged : Peg → List ℕ → Matched Tag → Type 0
+Tagged g t r = Answers g t r.at (λ x o. draw_tag o t (taken r.at) x) (λ x. SoundTag t x) no_tag r.value
 
 -- a tag of any kind stands under the choice's own node
-abbrev pub Enumerated : Peg → List ℕ → TagMatch → Type 0
-Enumerated g t r = Answers g t r.at (λ x o. tree Rule.enum_tag o (taken r.at) (draw_tag o t (taken r.at) x) nil) (λ x. SoundTag t x) no_tag r.tag
+abbrev pub Enumerated : Peg → List ℕ → Matched Tag → Type 0
+Enumerated g t r = Answers g t r.at (λ x o. tree Rule.enum_tag o (taken r.at) (draw_tag o t (taken r.at) x) nil) (λ x. SoundTag t x) no_tag r.value
 
-abbrev pub Described : Peg → List ℕ → DescMatch → Type 0
-Described g t r = Answers g t r.at (λ x o. draw_desc o t (taken r.at) x) (λ x. MatchedPart constraint_list t (desc_list x)) Body r.desc
+abbrev pub Described : Peg → List ℕ → Matched FieldDesc → Type 0
+Described g t r = Answers g t r.at (λ x o. draw_desc o t (taken r.at) x) (λ x. MatchedPart constraint_list t (desc_list x)) Body r.value
 
-pub record Fielded (t : List ℕ) (r : FieldMatch) : Type 0 where
+pub record Fielded (t : List ℕ) (r : Matched Field) : Type 0 where
   pub drawn : Draws field t r.at (λ o. draw_field o t r)
-  pub described : Described field_desc t r.desc
-  pub missed : hit r.at ≡ false → r.cond ≡ Always
+  pub described : Described field_desc t r.value.desc
+  pub missed : hit r.at ≡ false → r.value.condition ≡ None
 
-abbrev pub Headed : Rule → Peg → List ℕ → Header → Type 0
-Headed k g t r = Answers g t r.at (λ h o. draw_header k o t h) (λ h. MatchedPart constraint_list t h.constraints) (no_header r.at) r
+abbrev pub Headed : Rule → Peg → List ℕ → Matched Header → Type 0
+Headed k g t r = Answers g t r.at (λ h o. draw_header k o t h) (λ h. MatchedPart constraint_list t h.constraints) no_header r.value
 
 -- ---- an answer from what was matched: y, kept where the match took
 module _ {A : Type 0} (absent x y : A) (b : Bool) (e : x ≡ pick b y absent) where
@@ -162,13 +148,13 @@ module _ {A : Type 0} {g : Peg} {t : List ℕ} {r : Match} {draw : A → ℕ →
   continued e d s = record { drawn = d; sound = λ h. s; missed = never_missed e }
 
 -- a list that was matched stands in the span of its match; and where it may be absent, in what is kept of that span
-pub matched : {m : Match} {g : Peg} {t : List ℕ} {r : Match} → Steps m g t r → hit r ≡ true → Matched g t (span_of m r)
+pub matched : {m : Match} {g : Peg} {t : List ℕ} {r : Match} → Steps m g t r → hit r ≡ true → MatchedList g t (span_of m r)
 matched {m} {g} {t} {r} s h = record { there = part_hit m g t r s h; ends = part_taken m g t r s h }
 
-pub matched_part : {g : Peg} {t : List ℕ} {s : Span} {p : Part} (y : Match) → (hit y ≡ true → Matched g t s) → p ≡ pick (hit y) (Here s) Absent
+pub matched_part : {g : Peg} {t : List ℕ} {s : Span} {p : Option Span} (y : Match) → (hit y ≡ true → MatchedList g t s) → p ≡ pick (hit y) (Some s) None
     → MatchedPart g t p
-matched_part {g} {t} {s} y k e = subst (λ (z : Part). MatchedPart g t z) (sym e) (go (hit y) k)
+matched_part {g} {t} {s} y k e = subst (λ (z : Option Span). MatchedPart g t z) (sym e) (go (hit y) k)
   where
-    go : (b : Bool) → (b ≡ true → Matched g t s) → MatchedPart g t (pick b (Here s) Absent)
+    go : (b : Bool) → (b ≡ true → MatchedList g t s) → MatchedPart g t (pick b (Some s) None)
     go true f = f refl
     go false f = tt

@@ -3,6 +3,7 @@ pub mod Drawn
 pub mod Parts
 pub mod Optionals
 pub mod Answers
+pub mod Makers
 pub mod OptionalSteps
 pub mod Undrawn
 pub mod Settled

@@ -1,8 +1,7 @@
 -- The parts of an answer, read back from the nodes that they draw at offset 0: so no two answers draw the same nodes.
-use Rattle.std.specs.Prelude.{ℕ, ◌+◌, ◌≡◌, refl, List, false, drop}
+use Rattle.std.specs.Prelude.{ℕ, ◌+◌, ◌≡◌, refl, List, false, drop, Option, None, Some}
 use Rattle.std.proofs.Common.{arith, ap₂, subst, sym, ◌∙◌, eq-eqb}
 use Rattle.std.proofs.Math.Path.{ap}
-use Rattle.meaning.specs.declared.Match.{Match}
 use Rattle.meaning.specs.Choice.{pick}
 use Rattle.meaning.specs.Rules.{Rule, order, is}
 use Rattle.meaning.specs.Peg.{Peg, rule, run, bytewise}
@@ -13,8 +12,6 @@ use Rattle.meaning.specs.Walk.{following}
 use Rattle.grammar.specs.Nodes.{nodes_rule}
 use Rattle.grammar.specs.Order.{kids_of}
 use Rattle.spans.specs.declared.Span.{Span}
-use Rattle.spans.specs.declared.Part.{Part}
-use Rattle.spans.specs.declared.Part.TheVariants.{Absent, Here}
 use Rattle.spans.specs.declared.Operand.{Operand}
 use Rattle.spans.specs.declared.Operand.TheVariants.{Identifier, Integer}
 use Rattle.spans.specs.declared.ArraySize.{ArraySize}
@@ -22,8 +19,6 @@ use Rattle.spans.specs.declared.ArraySize.TheVariants.{Unknown, Modifier, Known}
 use Rattle.spans.specs.declared.Target.{Target}
 use Rattle.spans.specs.declared.Target.TheVariants.{OfField, OfPayload, OfBody}
 use Rattle.spans.specs.declared.Constraint.{Constraint}
-use Rattle.spans.specs.declared.Condition.{Condition}
-use Rattle.spans.specs.declared.Condition.TheVariants.{Always, If}
 use Rattle.spans.specs.declared.Tag.{Tag}
 use Rattle.spans.specs.declared.Tag.TheVariants.{Value, Range, Other}
 use Rattle.spans.specs.declared.FieldDesc.{FieldDesc}
@@ -31,7 +26,7 @@ use Rattle.spans.specs.declared.FieldDesc.TheVariants.{Checksum, Padding, Size, 
 use Rattle.spans.specs.declared.Header.{Header}
 use Rattle.spans.specs.Drawn.{draw_part, draw_operand, draw_array_size, draw_target, list_at, draw_constraint, draw_condition, draw_tag, draw_desc, draw_header}
 use Rattle.spans.specs.Optionals.{before, NotFirst, not_first, part_here, part_behind}
-use Rattle.spans.specs.Answers.{Matched, MatchedPart, nowhere, no_tag, SoundTag, desc_list}
+use Rattle.spans.specs.Answers.{MatchedList, MatchedPart, nowhere, no_tag, SoundTag, desc_list}
 
 -- ---- spans: that of the first node
 abbrev pub span_at : ℕ → ℕ → Span
@@ -76,30 +71,30 @@ target_back (OfPayload s) = ap OfPayload (span_back s)
 target_back (OfBody s) = ap OfBody (span_back s)
 
 -- ---- a part that may be absent, as the walk takes it
-abbrev pub part_of : W.Part → Part
-part_of p = pick p.found (Here (span_at p.start p.len)) Absent
+abbrev pub part_of : W.Part → Option Span
+part_of p = pick p.found (Some (span_at p.start p.len)) None
 
-before_back : (w : Forest) (p : Part) → part_of (before 0 w p) ≡ p
-before_back w Absent = refl
-before_back w (Here s) = ap Here (span_back s)
+before_back : (w : Forest) (p : Option Span) → part_of (before 0 w p) ≡ p
+before_back w None = refl
+before_back w (Some s) = ap Some (span_back s)
 
 -- a list that stands where its part says is a node of its own rule
 module _ (k : Rule) (g : Peg) (plain : is Rule.COMMENT k ≡ false) (t : List ℕ) where
-  list_node : (s : Span) → Matched (rule k g) t s → nodes (bytewise (rule k g)) (0 + s.start) (drop s.start t)
+  list_node : (s : Span) → MatchedList (rule k g) t s → nodes (bytewise (rule k g)) (0 + s.start) (drop s.start t)
       ≡ tree k (0 + s.start) s.len (nodes (bytewise g) (0 + s.start) (drop s.start t)) nil
   unfolding run
   list_node s m =
       nodes_rule k (bytewise g) (0 + s.start) (drop s.start t) plain m.there
       ∙ ap (λ (n : ℕ). tree k (0 + s.start) n (nodes (bytewise g) (0 + s.start) (drop s.start t)) nil) m.ends
 
-  list_back : (p : Part) → MatchedPart (rule k g) t p → part_of (W.part k (list_at (rule k g) 0 t p)) ≡ p
-  list_back Absent m = refl
-  list_back (Here s) m =
-      ap (λ (w : Forest). part_of (W.part k w)) (list_node s m) ∙ rw (eq-eqb (order k) (order k) refl) (ap Here (span_back s))
+  list_back : (p : Option Span) → MatchedPart (rule k g) t p → part_of (W.part k (list_at (rule k g) 0 t p)) ≡ p
+  list_back None m = refl
+  list_back (Some s) m =
+      ap (λ (w : Forest). part_of (W.part k w)) (list_node s m) ∙ rw (eq-eqb (order k) (order k) refl) (ap Some (span_back s))
 
-  list_not_first : (r : Rule) → is r k ≡ false → (p : Part) → MatchedPart (rule k g) t p → NotFirst r (list_at (rule k g) 0 t p)
-  list_not_first r e Absent m = tt
-  list_not_first r e (Here s) m = subst (NotFirst r) (sym (list_node s m)) e
+  list_not_first : (r : Rule) → is r k ≡ false → (p : Option Span) → MatchedPart (rule k g) t p → NotFirst r (list_at (rule k g) 0 t p)
+  list_not_first r e None m = tt
+  list_not_first r e (Some s) m = subst (NotFirst r) (sym (list_node s m)) e
 
 -- ---- constraints and conditions
 abbrev pub constraint_of : Forest → Constraint
@@ -110,13 +105,13 @@ constraint_back c =
     ap₂ (λ (s i : Span). record { span = s; id = i; value = operand_of (draw_operand 0 c.value) }) (span_back c.span) (span_back c.id)
     ∙ ap (λ (v : Operand). record { span = c.span; id = c.id; value = v }) (operand_back c.value)
 
-abbrev pub condition_of : Forest → Condition
-condition_of nil = Always
-condition_of (tree r s l k more) = If (constraint_of (tree r s l k more))
+abbrev pub condition_of : Forest → Option Constraint
+condition_of nil = None
+condition_of (tree r s l k more) = Some (constraint_of (tree r s l k more))
 
-pub condition_back : (x : Condition) → condition_of (draw_condition 0 x) ≡ x
-condition_back Always = refl
-condition_back (If c) = ap If (constraint_back c)
+pub condition_back : (x : Option Constraint) → condition_of (draw_condition 0 x) ≡ x
+condition_back None = refl
+condition_back (Some c) = ap Some (constraint_back c)
 
 -- ---- tags
 abbrev pub tag_of : Forest → Tag
@@ -135,7 +130,7 @@ unfolding enum_value_list
 tag_back t n (Value v) m = ap₂ (λ (i j : Span). Value (record { id = i; value = j })) (span_back v.id) (span_back v.value)
 tag_back t n (Other x) m = ap (λ (i : Span). Other (record { id = i })) (span_back x.id)
 tag_back t n (Range r) m =
-    ap₂ (λ (j : Span) (p : Part). Range (record { id = back r.id; start = back r.start; end = j; tags = p })) (span_back r.end)
+    ap₂ (λ (j : Span) (p : Option Span). Range (record { id = back r.id; start = back r.start; end = j; tags = p })) (span_back r.end)
     (list_back Rule.enum_value_list _ refl t r.tags m)
     ∙ ap₂ (λ (i j : Span). Range (record { id = i; start = j; end = r.end; tags = r.tags })) (span_back r.id) (span_back r.start)
 
@@ -167,8 +162,8 @@ desc_back t n (Size (OfBody s) width) m = ap₂ Size (target_back (OfBody s)) (s
 desc_back t n (Count id width) m = ap₂ Count (span_back id) (span_back width)
 desc_back t n (ElementSize id width) m = ap₂ ElementSize (span_back id) (span_back width)
 desc_back t n Body m = refl
-desc_back t n (Payload Absent) m = refl
-desc_back t n (Payload (Here s)) m = ap (λ (z : Span). Payload (Here z)) (span_back s)
+desc_back t n (Payload None) m = refl
+desc_back t n (Payload (Some s)) m = ap (λ (z : Span). Payload (Some z)) (span_back s)
 desc_back t n (FixedScalar value width) m = ap₂ FixedScalar (span_back value) (span_back width)
 desc_back t n (FixedEnum tag type) m = ap₂ FixedEnum (span_back tag) (span_back type)
 desc_back t n (Reserved width) m = ap Reserved (span_back width)
@@ -199,22 +194,23 @@ desc_following o t n (Scalar id width) w = refl
 desc_following o t n (Typedef id type) w = refl
 desc_following o t n (Group id list) w = refl
 
--- ---- heads; they draw all of a head but its match
-abbrev head : Match → Span → Span → Part → Part → Part → Part → Header
-head m k i p w f c = record { at = m; keyword = k; id = i; parent = p; width = w; function = f; constraints = c }
+-- ---- heads
+abbrev head : Span → Span → Option Span → Option Span → Option Span → Option Span → Header
+head k i p w f c = record { keyword = k; id = i; parent = p; width = w; function = f; constraints = c }
 
-abbrev pub header_of : Match → Forest → Header
-header_of m w =
+abbrev pub header_of : Forest → Header
+header_of w =
     let parent = W.part Rule.identifier (following (following w)) in
     let width = W.part Rule.integer parent.next in
     let function = W.part Rule.string width.next in
-    head m (front w) (front (following w)) (part_of parent) (part_of width) (part_of function) (part_of (W.part Rule.constraint_list function.next))
+    head (front w) (front (following w)) (part_of parent) (part_of width) (part_of function) (part_of (W.part Rule.constraint_list function.next))
 
-same_head : {m : Match} {a b c d : Span} {p q w x f g u v : Part} → a ≡ b → c ≡ d → p ≡ q → w ≡ x → f ≡ g → u ≡ v → head m a c p w f u ≡ head m b d q x g v
+same_head : {a b c d : Span} {p q w x f g u v : Option Span} → a ≡ b → c ≡ d → p ≡ q → w ≡ x → f ≡ g → u ≡ v → head a c p w f u ≡ head b d q x g v
 same_head e1 e2 e3 e4 e5 e6 = cc
 
 -- the parts behind the id that may be absent, before a list l, which is none of them
-module _ (p w f : Part) (l : Forest) (no_name : NotFirst Rule.identifier l) (no_number : NotFirst Rule.integer l) (no_text : NotFirst Rule.string l) where
+module _ (p w f : Option Span) (l : Forest)
+    (no_name : NotFirst Rule.identifier l) (no_number : NotFirst Rule.integer l) (no_text : NotFirst Rule.string l) where
   abbrev behind_width : Forest
   behind_width = draw_part Rule.string 0 f ⊕ l
 
@@ -243,13 +239,13 @@ module _ (p w f : Part) (l : Forest) (no_name : NotFirst Rule.identifier l) (no_
   function_is : function ≡ before 0 l f
   function_is = part_behind Rule.string 0 behind_width w width _ width_is (part_here Rule.string 0 l f refl no_text)
 
-  head_back : {m : Match} {a b c d : Span} {z : Part} → a ≡ b → c ≡ d → part_of (W.part Rule.constraint_list l) ≡ z
-      → head m a c (part_of parent) (part_of width) (part_of function) (part_of (W.part Rule.constraint_list function.next)) ≡ head m b d p w f z
+  head_back : {a b c d : Span} {z : Option Span} → a ≡ b → c ≡ d → part_of (W.part Rule.constraint_list l) ≡ z
+      → head a c (part_of parent) (part_of width) (part_of function) (part_of (W.part Rule.constraint_list function.next)) ≡ head b d p w f z
   head_back e1 e2 e3 =
       same_head e1 e2 (ap part_of parent_is ∙ before_back behind_parent p) (ap part_of width_is ∙ before_back behind_width w)
       (ap part_of function_is ∙ before_back l f) (ap part_of (part_behind Rule.constraint_list 0 l f function _ function_is refl) ∙ e3)
 
-pub header_back : (k : Rule) (t : List ℕ) (h : Header) → MatchedPart constraint_list t h.constraints → header_of h.at (draw_header k 0 t h) ≡ h
+pub header_back : (k : Rule) (t : List ℕ) (h : Header) → MatchedPart constraint_list t h.constraints → header_of (draw_header k 0 t h) ≡ h
 unfolding constraint_list
 header_back k t h m =
     head_back h.parent h.width h.function _ (none Rule.identifier refl) (none Rule.integer refl) (none Rule.string refl)

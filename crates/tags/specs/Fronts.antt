@@ -1,27 +1,25 @@
 -- The front that all tags share, a name and `=` up to what stands behind the blanks, and what each kind of tag draws from there.
-use Rattle.std.specs.Prelude.{ℕ, ◌≡◌, List, true, drop}
+use Rattle.std.specs.Prelude.{ℕ, ◌≡◌, List, Option, None}
 use Rattle.std.proofs.Common.{arith, sym, ◌∙◌}
 use Rattle.std.proofs.Math.Path.{refl, ap, ap₂}
 use Rattle.meaning.specs.declared.Match.{Match}
 use Rattle.meaning.specs.declared.Match.TheVariants.{Missed, Took}
 use Rattle.meaning.specs.Rules.{Rule}
-use Rattle.meaning.specs.Peg.{Peg, seq, alt, opt, join, run, bytewise, hit, taken}
+use Rattle.meaning.specs.Peg.{Peg, seq, opt, join, taken}
 use Rattle.meaning.specs.Forest.{Forest, nil, ◌⊕◌}
 use Rattle.meaning.specs.Pdl.{text, ◌~◌, ◌∣◌, skip, identifier, integer, enum_value, enum_value_list, enum_range, enum_other}
 use Rattle.grammar.specs.Matching.{Steps, stay}
-use Rattle.grammar.specs.Hits.{no_hit, hit_after, hit_seq, hit_opt}
 use Rattle.grammar.specs.Fits.{lift_0}
-use Rattle.grammar.specs.Steps.{link, start, reads_rule}
+use Rattle.grammar.specs.Steps.{start, reads_rule}
 use Rattle.grammar.specs.Drawing.{Draws, Follows, whole, then, draws_rule, first, second, retold}
-use Rattle.lexis.specs.Skips.{hit_skip}
+use Rattle.spans.specs.declared.Matched.{Matched}
 use Rattle.spans.specs.declared.Span.{Span}
-use Rattle.spans.specs.declared.Part.{Part}
-use Rattle.spans.specs.declared.Part.TheVariants.{Absent}
+use Rattle.spans.specs.declared.Tag.{Tag}
 use Rattle.spans.specs.declared.Tag.TheVariants.{Value, Range, Other}
 use Rattle.spans.specs.Spans.{span_of}
 use Rattle.spans.specs.Drawn.{leaf_at, list_at, draw_tag}
 use Rattle.spans.specs.Parts.{gap, sign, mark, number}
-use Rattle.spans.specs.Answers.{Continues, MatchedPart}
+use Rattle.spans.specs.Answers.{Continues, MatchedPart, Tagged}
 use Rattle.grammar.specs.Shared.{halted, back, afresh, second_rule}
 
 -- the name id and `=`; b ends behind the blanks
@@ -37,13 +35,16 @@ abbrev inner : Peg
 inner = opt (text "{" ~ enum_value_list ~ text "}")
 
 -- r goes on from m over them, and tags says where their list is
-abbrev pub InBraces : Match → List ℕ → Match → Part → Type 0
-InBraces m t r tags = Continues m inner t r (λ p o. list_at enum_value_list o t p) (λ p. MatchedPart enum_value_list t p) Absent tags
+abbrev pub InBraces : Match → List ℕ → Match → Option Span → Type 0
+InBraces m t r tags = Continues m inner t r (λ p o. list_at enum_value_list o t p) (λ p. MatchedPart enum_value_list t p) None tags
 
--- a first alternative that took
-first_hit : {a b : Peg} {t : List ℕ} {w : ℕ → Forest} (x : Match) → hit x ≡ true → Draws a t x w → Draws (alt a b) t x w
-first_hit (Missed f) h d = no_hit f h
-first_hit (Took n f) h d = first n f d refl
+-- r answers a range whose first value ends at low, and goes on from there
+abbrev behind_low : Peg
+behind_low = seq (seq skip (text "..")) (seq skip (seq integer (seq skip inner)))
+
+pub record Ranged (label : Matched Span) (low : Match) (t : List ℕ) (r : Matched Tag) : Type 0 where
+  pub goes : Steps low behind_low t r.at
+  pub answers : Front t label.at label.value → Steps label.at integer t low → Tagged enum_range t r
 
 module _ {t : List ℕ} {b : Match} {id : Span} (f : Front t b id) where
   with : {g : Peg} {x : Match} {w : ℕ → Forest} → Follows b g t x w
@@ -72,6 +73,13 @@ module _ {t : List ℕ} {b : Match} {id : Span} (f : Front t b id) where
         let z = afresh g f.blanks_are.steps.fits s e q (sign k) in
         second_rule Rule.enum_other refl g (second g no_range e value again).reads e (whole (with z.follows)) z.is
 
+    -- where no range stands behind the first value, that is the tag's
+    pub no_range : {x r : Match} {w : ℕ → Forest} (g n i : ℕ) → low ≡ Took n i → Draws enum_range t x w → Steps low behind_low t x → x ≡ Missed g
+        → r ≡ stay low x → Draws (enum_range ∣ enum_value ∣ enum_other) t r (λ o. draw_tag o t (taken r) (Value (record { id = id; value = v })))
+    unfolding enum_value
+    no_range g n i l d k e q =
+        first n g (second_rule Rule.enum_value refl g d.reads e (whole valued) (q ∙ back g k e)) (q ∙ ap₂ stay l e)
+
     -- ---- a second integer, which ends at high
     module _ {d c high : Match} {w : Span} (dots : Steps low (seq skip (text "..")) t d) (blanks : Steps d skip t c) (h : Steps c integer t high)
         (ends : w ≡ span_of c high) where
@@ -79,27 +87,7 @@ module _ {t : List ℕ} {b : Match} {id : Span} (f : Front t b id) where
           (λ o. leaf_at Rule.identifier o id ⊕ leaf_at Rule.integer o v ⊕ leaf_at Rule.integer o w)
       ranged = retold (then (then valued (mark dots)) (then (gap blanks) (number h))) (λ k o. rw ends)
 
-      pub range : {m r : Match} {tags : Part} → Steps high skip t m → InBraces m t r tags
+      pub range : {m r : Match} {tags : Option Span} → Steps high skip t m → InBraces m t r tags
           → Draws enum_range t r (λ o. draw_tag o t (taken r) (Range (record { id = id; start = v; end = w; tags = tags })))
       unfolding enum_range
       range k l = draws_rule Rule.enum_range refl (whole (then ranged (then (gap k) l.drawn)))
-
-      -- where none stands, the first is a value
-      pub no_range : {r : Match} (g n i : ℕ) → low ≡ Took n i → high ≡ Missed g → r ≡ stay low high
-          → Draws (enum_range ∣ enum_value ∣ enum_other) t r (λ o. draw_tag o t (taken r) (Value (record { id = id; value = v })))
-      unfolding enum_range enum_value
-      no_range g n i l e q =
-          first n g
-          (second_rule Rule.enum_value refl g (reads_rule Rule.enum_range (start (halted g ranged.steps e))) e (whole valued)
-          (q ∙ back g (link dots (link blanks h)) e))
-          (q ∙ ap₂ stay l e)
-
-      -- where it stands, the tag is a range: what follows may be absent
-      pub is_range : {m r : Match} {tags : Part} (n i : ℕ) → high ≡ Took n i → Steps high skip t m → InBraces m t r tags
-          → Draws (enum_range ∣ enum_value ∣ enum_other) t r (λ o. draw_tag o t (taken r) (Range (record { id = id; start = v; end = w; tags = tags })))
-      is_range {r = r} n i e k l =
-          let u : List ℕ = drop (taken high) t in
-          let took : hit r ≡ true
-          = ap hit (link k l.drawn.steps).is ∙ hit_after high (λ x. run (bytewise (seq skip inner)) x) t (ap hit e)
-          ∙ hit_seq (bytewise skip) (bytewise inner) u (hit_opt (bytewise (text "{" ~ enum_value_list ~ text "}")) _) ∙ hit_skip u in
-          first_hit r took (first_hit r took (range k l))

@@ -3,63 +3,54 @@
 
 ghost use Rattle.std.specs.Prelude.{◌≡◌};
 ghost use Rattle.meaning.specs.Choice.{pick};
-ghost use Rattle.meaning.specs.Peg.{seq, star, hit};
-ghost use Rattle.meaning.specs.Pdl.{text, ◌~◌, skip, enum_value, enum_value_list, enum_range, enum_other, enum_tag, enum_tag_list};
+ghost use Rattle.meaning.specs.Peg.{hit};
+ghost use Rattle.meaning.specs.Pdl.{enum_value, enum_value_list, enum_range, enum_other, enum_tag, enum_tag_list};
 ghost use Rattle.grammar.specs.Matching.{Within, Reads, Steps};
 ghost use Rattle.spans.specs.Answers.{Tagged, Enumerated, no_tag};
-ghost use Rattle.tags.specs.Fronts.{Front, InBraces};
+ghost use Rattle.tags.specs.Fronts.{Front, InBraces, Ranged};
 
-use grammar::{joined, optional};
+use grammar::{optional, then};
 use lexis::blanks::{next_literal, then_blanks, then_last_comma};
+use lexis::lists::then_list;
 use lexis::texts::then_literal;
 use lexis::tokens::{then_identifier, then_integer};
 use meaning::Match;
-use spans::{Part, Span, Tag, TagMatch, TagOther, TagRange, TagValue, between, kept_part};
+use spans::{Matched, NO_TAG, Span, Tag, TagOther, TagRange, TagValue, between, kept};
 
-// A tag with its match, where that took; else none.
-fn tagged(at: Match, tag: Tag) -> TagMatch
-    ensures { (result.at ≡ at) × (result.tag ≡ pick (hit at) tag no_tag) }
+// A tag with its match, where that took; else none. What a miss answers is named here, once for every tag.
+fn tagged(at: Match, tag: Tag) -> Matched<Tag>
+    ensures { (result.at ≡ at) × (result.value ≡ pick (hit at) tag no_tag) }
 {
-    let there = grammar::took(at);
-    if there {
-        return TagMatch { at, tag };
-    }
-    let id = Span { start: 0, len: 0 };
-    TagMatch {
+    Matched {
         at,
-        tag: Tag::Other(TagOther { id }),
+        value: kept(at, tag, NO_TAG),
     }
 }
 
-// The front that all tags share: its name, and where the blanks behind its `=` end.
-#[derive(Clone, Copy)]
-struct Label {
-    at: Match,
-    id: Span,
-}
-
-// A name, `=`, and blanks.
-fn front(s: &[u8]) -> Label
-    ensures { Front s.now result.at result.id }
+// The front that all tags share, a name, `=`, and blanks: where these end, with the name.
+fn front(s: &[u8]) -> Matched<Span>
+    ensures { Front s.now result.at result.value }
 {
     let first = Match::Took(0, 0);
     let a = then_identifier(s, first);
-    Label {
+    Matched {
         at: then_blanks(s, next_literal(s, a, b"=")),
-        id: between(first, a),
+        value: between(first, a),
     }
 }
 
 // A name and its value.
-pub fn enum_value(s: &[u8]) -> TagMatch
+pub fn enum_value(s: &[u8]) -> Matched<Tag>
     ensures { Tagged enum_value s.now result }
 {
     let label = front(s);
-    let b = label.at;
-    let id = label.id;
-    let at = then_integer(s, b);
-    let value = between(b, at);
-    tagged(at, Tag::Value(TagValue { id, value }))
+    let at = then_integer(s, label.at);
+    let value = between(label.at, at);
+    let tag = TagValue {
+        id: label.value,
+        value,
+    };
+    tagged(at, Tag::Value(tag))
 }
 
 // A name and its value, where m ends.
@@ -67,37 +58,10 @@ pub fn then_enum_value(s: &[u8], m: Match) -> Match
     requires { Within m s.now }
     ensures { Steps m enum_value s.now result }
 {
-    match m {
-        Match::Missed(f) => Match::Missed(f),
-        Match::Took(n, f) => {
-            let v = enum_value(&s[n..]);
-            let at = v.at;
-            joined(s, n, f, at)
-        }
-    }
-}
-
-// A comma and a value, where m ends.
-fn then_comma_value(s: &[u8], m: Match) -> Match
-    requires { Within m s.now }
-    ensures { Steps m (text "," ~ enum_value) s.now result }
-{
-    then_enum_value(s, then_blanks(s, then_literal(s, m, b",")))
-}
-
-// As many commas and values as follow m.
-fn then_comma_values(s: &[u8], m: Match) -> Match
-    requires { Within m s.now }
-    ensures { Steps m (star (seq skip (text "," ~ enum_value))) s.now result }
-{
-    let mut at = m;
-    loop {
-        let next = then_comma_value(s, then_blanks(s, at));
-        match next {
-            Match::Missed(_) => return optional(s, at, next),
-            Match::Took(_, _) => at = next,
-        }
-    }
+    let matcher = |rest: &[u8]|
+        ensures { Reads enum_value rest.now result }
+    { enum_value(rest).at };
+    then(s, m, matcher)
 }
 
 // A list of values, where m ends.
@@ -105,9 +69,7 @@ pub fn then_enum_value_list(s: &[u8], m: Match) -> Match
     requires { Within m s.now }
     ensures { Steps m enum_value_list s.now result }
 {
-    let b = then_blanks(s, then_enum_value(s, m));
-    let all = optional(s, b, then_comma_values(s, then_comma_value(s, b)));
-    then_last_comma(s, all)
+    then_last_comma(s, then_list(s, m, then_enum_value))
 }
 
 // A list of values at the front.
@@ -117,94 +79,75 @@ pub fn enum_value_list(s: &[u8]) -> Match
     then_enum_value_list(s, Match::Took(0, 0))
 }
 
-// The values in braces behind a range, as one part: where it ends, and its list.
-#[derive(Clone, Copy)]
-struct Braces {
-    at: Match,
-    tags: Part,
-}
-
-// Values in braces, or nothing, where m ends.
-fn then_braces(s: &[u8], m: Match) -> Braces
+// Values in braces, or nothing, where m ends: where they end, with their list.
+fn then_braces(s: &[u8], m: Match) -> Matched<Option<Span>>
     requires { Within m s.now }
-    ensures { InBraces m s.now result.at result.tags }
+    ensures { InBraces m s.now result.at result.value }
 {
     let a = then_blanks(s, then_literal(s, m, b"{"));
     let list = then_enum_value_list(s, a);
     let x = next_literal(s, list, b"}");
-    let tags = kept_part(x, Part::Here(between(a, list)));
-    Braces {
+    Matched {
         at: optional(s, m, x),
-        tags,
+        value: kept(x, Some(between(a, list)), None),
     }
 }
 
-// A name, its first and last value, and values in braces; without these the range ends after the blanks.
-pub fn enum_range(s: &[u8]) -> TagMatch
+// The rest of a range, whose first value ends at low: its last value, and values in braces; without these the range ends
+// after the blanks.
+fn then_range(s: &[u8], label: Matched<Span>, low: Match) -> Matched<Tag>
+    requires { Within low s.now }
+    ensures { Ranged label low s.now result }
+{
+    let c = then_blanks(s, next_literal(s, low, b".."));
+    let high = then_integer(s, c);
+    let braces = then_braces(s, then_blanks(s, high));
+    let range = TagRange {
+        id: label.value,
+        start: between(label.at, low),
+        end: between(c, high),
+        tags: braces.value,
+    };
+    tagged(braces.at, Tag::Range(range))
+}
+
+// A name, its first and last value, and values in braces.
+pub fn enum_range(s: &[u8]) -> Matched<Tag>
     ensures { Tagged enum_range s.now result }
 {
     let label = front(s);
-    let b = label.at;
-    let id = label.id;
-    let low = then_integer(s, b);
-    let start = between(b, low);
-    let c = then_blanks(s, next_literal(s, low, b".."));
-    let high = then_integer(s, c);
-    let end = between(c, high);
-    let inner = then_braces(s, then_blanks(s, high));
-    let at = inner.at;
-    let tags = inner.tags;
-    let range = TagRange {
-        id,
-        start,
-        end,
-        tags,
-    };
-    tagged(at, Tag::Range(range))
+    then_range(s, label, then_integer(s, label.at))
 }
 
 // A name for all other values.
-pub fn enum_other(s: &[u8]) -> TagMatch
+pub fn enum_other(s: &[u8]) -> Matched<Tag>
     ensures { Tagged enum_other s.now result }
 {
     let label = front(s);
-    let b = label.at;
-    let id = label.id;
-    let at = then_literal(s, b, b"..");
-    tagged(at, Tag::Other(TagOther { id }))
+    let at = then_literal(s, label.at, b"..");
+    tagged(at, Tag::Other(TagOther { id: label.value }))
 }
 
 // A tag: a range, else a value, else the name for all others. What they share is matched once: a range that misses behind
 // its first integer is a value, and where no integer stands only the name for all others is left.
-pub fn enum_tag(s: &[u8]) -> TagMatch
+pub fn enum_tag(s: &[u8]) -> Matched<Tag>
     ensures { Enumerated enum_tag s.now result }
 {
     let label = front(s);
-    let b = label.at;
-    let id = label.id;
-    let low = then_integer(s, b);
+    let low = then_integer(s, label.at);
     if let Match::Missed(_) = low {
-        let at = then_literal(s, optional(s, b, low), b"..");
-        return tagged(at, Tag::Other(TagOther { id }));
+        let at = then_literal(s, optional(s, label.at, low), b"..");
+        return tagged(at, Tag::Other(TagOther { id: label.value }));
     }
-    let value = between(b, low);
-    let c = then_blanks(s, next_literal(s, low, b".."));
-    let high = then_integer(s, c);
-    if let Match::Missed(_) = high {
-        let at = optional(s, low, high);
-        return tagged(at, Tag::Value(TagValue { id, value }));
+    let range = then_range(s, label, low);
+    if let Match::Missed(_) = range.at {
+        let tag = TagValue {
+            id: label.value,
+            value: between(label.at, low),
+        };
+        return tagged(optional(s, low, range.at), Tag::Value(tag));
     }
-    let end = between(c, high);
-    let inner = then_braces(s, then_blanks(s, high));
-    let at = inner.at;
-    let tags = inner.tags;
-    let range = TagRange {
-        id,
-        start: value,
-        end,
-        tags,
-    };
-    tagged(at, Tag::Range(range))
+    range
 }
 
 // A tag, where m ends.
@@ -212,37 +155,10 @@ pub fn then_enum_tag(s: &[u8], m: Match) -> Match
     requires { Within m s.now }
     ensures { Steps m enum_tag s.now result }
 {
-    match m {
-        Match::Missed(f) => Match::Missed(f),
-        Match::Took(n, f) => {
-            let v = enum_tag(&s[n..]);
-            let at = v.at;
-            joined(s, n, f, at)
-        }
-    }
-}
-
-// A comma and a tag, where m ends.
-fn then_comma_tag(s: &[u8], m: Match) -> Match
-    requires { Within m s.now }
-    ensures { Steps m (text "," ~ enum_tag) s.now result }
-{
-    then_enum_tag(s, then_blanks(s, then_literal(s, m, b",")))
-}
-
-// As many commas and tags as follow m.
-fn then_comma_tags(s: &[u8], m: Match) -> Match
-    requires { Within m s.now }
-    ensures { Steps m (star (seq skip (text "," ~ enum_tag))) s.now result }
-{
-    let mut at = m;
-    loop {
-        let next = then_comma_tag(s, then_blanks(s, at));
-        match next {
-            Match::Missed(_) => return optional(s, at, next),
-            Match::Took(_, _) => at = next,
-        }
-    }
+    let matcher = |rest: &[u8]|
+        ensures { Reads enum_tag rest.now result }
+    { enum_tag(rest).at };
+    then(s, m, matcher)
 }
 
 // A list of tags, where m ends.
@@ -250,9 +166,7 @@ pub fn then_enum_tag_list(s: &[u8], m: Match) -> Match
     requires { Within m s.now }
     ensures { Steps m enum_tag_list s.now result }
 {
-    let b = then_blanks(s, then_enum_tag(s, m));
-    let all = optional(s, b, then_comma_tags(s, then_comma_tag(s, b)));
-    then_last_comma(s, all)
+    then_last_comma(s, then_list(s, m, then_enum_tag))
 }
 
 // A list of tags at the front.

@@ -14,4 +14,4 @@ returns c = continue _
     (then (then (name c.then_identifier-a.ensures) (mark c.next_literal.ensures))
     (then (gap c.then_blanks-b.ensures) c.then_operand-v.ensures.drawn)))
     (λ h o. rw (c.between.ensures, c.between-2.ensures)))
-    (λ h. tt) c.kept_constraint.ensures
+    (λ h. tt) c.kept.ensures

@@ -1,11 +1,13 @@
+-- `then_constraint_list` meets its contract: a list of constraints.
+use Rattle.std.proofs.Common.{rules}
 use Rattle.meaning.specs.Rules.{Rule}
-use Rattle.meaning.specs.Pdl.{constraint_list}
-use Rattle.grammar.specs.Steps.{link, steps_rule, option}
+use Rattle.meaning.specs.Pdl.{constraint, constraint_list}
+use Rattle.grammar.specs.Steps.{steps_rule}
 use Rattle.constraints.proofs.then_constraint_list.Goals as goal
+
+pub then_list-requires-clause-steps : goal.then_list-requires-clause-steps
+then_list-requires-clause-steps c = (constraint, search rules)
 
 pub returns : goal.returns
 unfolding constraint_list
-returns c = steps_rule Rule.constraint_list
-    (link c.then_constraint-c.ensures.drawn.steps
-    (link c.then_blanks-b.ensures
-    (option c.then_blanks-b.ensures.fits (link c.then_comma.ensures c.then_commas.ensures) c.optional.ensures.is)))
+returns c = steps_rule Rule.constraint_list (c.then_list.ensures constraint (search rules))

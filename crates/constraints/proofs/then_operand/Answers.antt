@@ -1,18 +1,13 @@
-use Rattle.grammar.specs.Drawing.{one, other, retold}
-use Rattle.spans.specs.Parts.{name, number}
-use Rattle.spans.specs.declared.Operand.TheVariants.{Integer}
-use Rattle.spans.specs.Answers.{continue, continued}
+-- `then_operand` meets its contract: a name, or else a number.
+use Rattle.std.proofs.Common.{rules}
+use Rattle.lexis.specs.Leaves.{identifier_leaf, integer_leaf}
+use Rattle.spans.specs.Drawn.{draw_operand}
 use Rattle.constraints.proofs.then_operand.Goals as goal
 
-pub returns-in-Took : goal.returns-in-Took
-returns-in-Took c = continued c.in-Took.is
-    (retold (one _ _ (name c.then_identifier-x.ensures) c.in-Took.is) (λ h o. rw c.between.ensures))
-    tt
+pub or_part-requires-clause-within : goal.or_part-requires-clause-within
+or_part-requires-clause-within c =
+    (c.requires, (c.then_part-name.ensures _ _ (λ x o. draw_operand o x) identifier_leaf (search rules) (search rules)).drawn.steps.fits)
 
 pub returns : goal.returns
-returns c = continue (Integer _)
-    (retold
-    (other _ c.then_identifier-x.ensures c.in_default.is c.optional-b.ensures.is
-    (number c.then_integer-y.ensures))
-    (λ h o. rw c.between-2.ensures))
-    (λ h. tt) c.kept_operand.ensures
+returns c = let name = c.then_part-name.ensures _ _ (λ x o. draw_operand o x) identifier_leaf (search rules) (search rules) in
+    c.or_part.ensures _ _ _ (λ x o. draw_operand o x) _ name integer_leaf (search rules) (search rules)

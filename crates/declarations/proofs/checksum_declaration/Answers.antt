@@ -6,4 +6,4 @@ use Rattle.declarations.proofs.checksum_declaration.Goals as goal
 
 pub returns : goal.returns
 unfolding checksum_declaration checksum_head
-returns c = reads_rule Rule.checksum_declaration c.checksum_head-h.ensures.drawn.reads
+returns c = reads_rule Rule.checksum_declaration c.checksum_head.ensures.drawn.reads

@@ -6,4 +6,4 @@ use Rattle.declarations.proofs.custom_field_declaration.Goals as goal
 
 pub returns : goal.returns
 unfolding custom_field_declaration custom_head
-returns c = reads_rule Rule.custom_field_declaration c.custom_field_head-h.ensures.drawn.reads
+returns c = reads_rule Rule.custom_field_declaration c.custom_field_head.ensures.drawn.reads

@@ -7,5 +7,5 @@ use Rattle.declarations.proofs.enum_declaration.Goals as goal
 pub returns : goal.returns
 unfolding enum_declaration enum_head
 returns c = reads_rule Rule.enum_declaration
-    (chain (chain c.enum_head-h.ensures.drawn.reads (link c.then_blanks.ensures c.then_enum_tag_list.ensures))
+    (chain (chain c.enum_head.ensures.drawn.reads (link c.then_blanks.ensures c.then_enum_tag_list.ensures))
     c.next_literal.ensures)

@@ -7,5 +7,5 @@ use Rattle.declarations.proofs.group_declaration.Goals as goal
 pub returns : goal.returns
 unfolding group_declaration group_head
 returns c = reads_rule Rule.group_declaration
-    (chain (chain c.group_head-h.ensures.drawn.reads (link c.then_blanks.ensures c.then_field_list.ensures))
+    (chain (chain c.group_head.ensures.drawn.reads (link c.then_blanks.ensures c.then_field_list.ensures))
     c.next_literal.ensures)

@@ -7,4 +7,4 @@ use Rattle.declarations.proofs.packet_declaration.Goals as goal
 pub returns : goal.returns
 unfolding packet_declaration packet_head
 returns c = reads_rule Rule.packet_declaration
-    (chain (chain c.packet_head-h.ensures.drawn.reads c.next_fields.ensures) c.next_literal.ensures)
+    (chain (chain c.packet_head.ensures.drawn.reads c.next_fields.ensures) c.next_literal.ensures)

@@ -7,4 +7,4 @@ use Rattle.declarations.proofs.struct_declaration.Goals as goal
 pub returns : goal.returns
 unfolding struct_declaration struct_head
 returns c = reads_rule Rule.struct_declaration
-    (chain (chain c.struct_head-h.ensures.drawn.reads c.next_fields.ensures) c.next_literal.ensures)
+    (chain (chain c.struct_head.ensures.drawn.reads c.next_fields.ensures) c.next_literal.ensures)

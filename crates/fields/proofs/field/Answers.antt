@@ -1,8 +1,8 @@
+use Rattle.std.specs.Prelude.{None, Some}
 use Rattle.std.proofs.Common.{refl, ◌∙◌}
 use Rattle.grammar.specs.Picks.{pick_false}
 use Rattle.grammar.specs.Drawing.{whole, opened, then, draws_rule}
 use Rattle.spans.specs.Parts.{gap, sign, optional}
-use Rattle.spans.specs.declared.Condition.TheVariants.{Always, If}
 use Rattle.spans.specs.Drawn.{draw_condition}
 use Rattle.meaning.specs.Rules.{Rule}
 use Rattle.meaning.specs.Pdl.{field}
@@ -36,8 +36,8 @@ returns c = let f = c.field_desc-desc.ensures in
           (whole
           (then (opened f.drawn)
           (then (gap c.then_blanks-b.ensures)
-          (optional (λ k o. draw_condition o k) Always (If _) (λ o. refl) c.then_blanks-b.ensures.fits x c.optional-at.ensures.is
-          c.kept_condition.ensures))));
+          (optional (λ k o. draw_condition o k) None (Some _) (λ o. refl) c.then_blanks-b.ensures.fits x c.optional-2.ensures.is
+          c.kept.ensures))));
       described = f;
-      missed = λ h. c.kept_condition.ensures ∙ pick_false _ _ _ (missed_before x.steps c.optional-at.ensures.is h);
+      missed = λ h. c.kept.ensures ∙ pick_false _ _ _ (missed_before x.steps c.optional-2.ensures.is h);
     }

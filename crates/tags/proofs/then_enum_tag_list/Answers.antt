@@ -1,9 +1,15 @@
+use Rattle.std.proofs.Common.{rules}
 use Rattle.meaning.specs.Rules.{Rule}
-use Rattle.meaning.specs.Pdl.{enum_tag_list}
-use Rattle.lexis.specs.CommaLists.{list_steps}
+use Rattle.meaning.specs.Pdl.{enum_tag, enum_tag_list}
+use Rattle.grammar.specs.Steps.{link, steps_rule}
 use Rattle.tags.proofs.then_enum_tag_list.Goals as goal
+
+pub then_list-requires-clause-steps : goal.then_list-requires-clause-steps
+then_list-requires-clause-steps c = (enum_tag, search rules)
+
+pub then_last_comma-requires : goal.then_last_comma-requires
+then_last_comma-requires c = (c.then_list.ensures enum_tag (search rules)).fits
 
 pub returns : goal.returns
 unfolding enum_tag_list
-returns c = list_steps Rule.enum_tag_list c.then_enum_tag.ensures c.then_blanks-b.ensures c.then_comma_tag.ensures
-    c.then_comma_tags.ensures c.optional-all.ensures.is c.then_last_comma.ensures
+returns c = steps_rule Rule.enum_tag_list (link (c.then_list.ensures enum_tag (search rules)) c.then_last_comma.ensures)

@@ -10,7 +10,7 @@ use Rattle.declarations.proofs.headers.checksum_head.Goals as goal
 
 pub returns : goal.returns
 unfolding checksum_head CHECKSUM
-returns c = headed _
+returns c = headed
     (whole
     (retold
     (then
@@ -22,4 +22,4 @@ returns c = headed _
     (then (gap c.then_blanks-b.ensures) (number c.then_integer-width.ensures)))
     (then (gap c.then_blanks-c.ensures) (quoted c.then_string-at.ensures)))
     (λ h o. rw (c.between.ensures, c.between-2.ensures, c.between-3.ensures, c.between-4.ensures))))
-    (λ h. tt) c.kept_header.ensures
+    (λ h. tt) c.headed.ensures

@@ -11,7 +11,7 @@ use Rattle.declarations.proofs.headers.custom_field_head.Goals as goal
 
 pub returns : goal.returns
 unfolding custom_head CUSTOM_FIELD
-returns c = headed _
+returns c = headed
     (whole
     (retold
     (then
@@ -21,7 +21,7 @@ returns c = headed _
     (then (gap c.then_blanks-b.ensures)
     (optional_token Rule.integer c.then_blanks-b.ensures.fits
     (then (sign c.then_literal.ensures) (then (gap c.then_blanks-c.ensures) (number c.then_integer-width.ensures)))
-    c.optional.ensures.is c.kept_part.ensures c.between-3.ensures)))
+    c.optional.ensures.is c.kept.ensures c.between-3.ensures)))
     (then (gap c.then_blanks-d.ensures) (quoted c.then_string-at.ensures)))
     (λ h o. rw (c.between.ensures, c.between-2.ensures, c.between-4.ensures))))
-    (λ h. tt) c.kept_header.ensures
+    (λ h. tt) c.headed.ensures

@@ -10,7 +10,7 @@ use Rattle.declarations.proofs.headers.group_head.Goals as goal
 
 pub returns : goal.returns
 unfolding group_head GROUP
-returns c = headed _
+returns c = headed
     (whole
     (retold
     (then
@@ -18,4 +18,4 @@ returns c = headed _
     (then (gap c.then_blanks-a.ensures) (name c.then_identifier-id.ensures)))
     (mark c.next_literal.ensures))
     (λ h o. rw (c.between.ensures, c.between-2.ensures))))
-    (λ h. tt) c.kept_header.ensures
+    (λ h. tt) c.headed.ensures

@@ -10,10 +10,10 @@ pub returns : goal.returns
 returns c = let list =
     optional_list c.then_blanks-d.ensures.fits (sign c.then_literal-2.ensures) (gap c.then_blanks-e.ensures)
     c.then_constraint_list-list.ensures (mark c.next_literal-closed.ensures) c.optional-2.ensures.is
-    c.kept_part-2.ensures c.between-4.ensures in
+    c.kept-2.ensures c.between-4.ensures in
     record {
       heads = λ w z q.
-          headed _
+          headed
           (whole
           (retold
           (then
@@ -22,9 +22,9 @@ returns c = let list =
           (then (gap c.then_blanks-b.ensures)
           (optional_token Rule.identifier c.then_blanks-b.ensures.fits
           (then (sign c.then_literal.ensures) (then (gap c.then_blanks-c.ensures) (name c.then_identifier-parent.ensures)))
-          c.optional.ensures.is c.kept_part.ensures c.between-3.ensures)))
+          c.optional.ensures.is c.kept.ensures c.between-3.ensures)))
           (then (gap c.then_blanks-d.ensures) list.drawn))
           (mark c.next_literal.ensures))
           (λ h o. rw (c.between.ensures, c.between-2.ensures, nil_right))))
-          (λ h. list.sound (before_hit c.next_literal.ensures h)) c.kept_header.ensures;
+          (λ h. list.sound (before_hit c.next_literal.ensures h)) c.headed.ensures;
     }

@@ -1,9 +1,6 @@
-use Rattle.grammar.specs.Drawing.{then, retold}
-use Rattle.spans.specs.Parts.{gap, number}
-use Rattle.spans.specs.Answers.{continue}
+use Rattle.std.proofs.Common.{rules}
+use Rattle.lexis.specs.Leaves.{integer_leaf}
 use Rattle.fields.proofs.parts.next_number.Goals as goal
 
 pub returns : goal.returns
-returns c = continue _
-    (retold (then (gap c.then_blanks-b.ensures) (number c.then_integer-at.ensures)) (λ h o. rw c.between.ensures))
-    (λ h. tt) c.kept_span.ensures
+returns c = c.next_token.ensures _ _ integer_leaf (search rules)

@@ -1,17 +1,12 @@
-use Rattle.grammar.specs.Drawing.{one, other, retold}
-use Rattle.spans.specs.Parts.{number, name}
-use Rattle.spans.specs.declared.Operand.TheVariants.{Identifier}
-use Rattle.spans.specs.Answers.{continue, continued}
+use Rattle.std.proofs.Common.{rules}
+use Rattle.lexis.specs.Leaves.{identifier_leaf, integer_leaf}
+use Rattle.spans.specs.Drawn.{draw_operand}
 use Rattle.fields.proofs.parts.then_element.Goals as goal
 
-pub returns-in-Took : goal.returns-in-Took
-returns-in-Took c = let e = c.in-Took.is in
-    continued e (retold (one _ _ (number c.then_integer-x.ensures) e) (λ h o. rw c.between.ensures)) tt
+pub or_part-requires-clause-within : goal.or_part-requires-clause-within
+or_part-requires-clause-within c =
+    (c.requires, (c.then_part-width.ensures _ _ (λ x o. draw_operand o x) integer_leaf (search rules) (search rules)).drawn.steps.fits)
 
 pub returns : goal.returns
-returns c = continue (Identifier _)
-    (retold
-    (other _ c.then_integer-x.ensures c.in_default.is c.optional-b.ensures.is
-    (name c.then_identifier-y.ensures))
-    (λ h o. rw c.between-2.ensures))
-    (λ h. tt) c.kept_operand.ensures
+returns c = let width = c.then_part-width.ensures _ _ (λ x o. draw_operand o x) integer_leaf (search rules) (search rules) in
+    c.or_part.ensures _ _ _ (λ x o. draw_operand o x) _ width identifier_leaf (search rules) (search rules)

@@ -7,4 +7,4 @@ pub returns : goal.returns
 returns c = continue _
     (then (then (then (sign c.then_literal.ensures) (mark c.next_byte.ensures)) c.next_name-id.ensures.drawn)
     (mark c.next_byte-at.ensures))
-    (λ h. tt) c.kept_span.ensures
+    (λ h. tt) c.kept.ensures

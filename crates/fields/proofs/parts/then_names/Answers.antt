@@ -1,10 +1,10 @@
-use Rattle.grammar.specs.Drawing.{then, retold}
-use Rattle.spans.specs.Parts.{mark, name}
-use Rattle.fields.specs.Tokens.{pair}
+use Rattle.std.proofs.Common.{rules}
+use Rattle.meaning.specs.Pdl.{identifier}
+use Rattle.lexis.specs.Leaves.{identifier_leaf}
 use Rattle.fields.proofs.parts.then_names.Goals as goal
 
+pub then_pair-requires-clause-steps : goal.then_pair-requires-clause-steps
+then_pair-requires-clause-steps c = (identifier, search rules)
+
 pub returns : goal.returns
-returns c = pair _ c.kept_span.ensures c.next_name-name.ensures.missed
-    (retold
-    (then (then (name c.then_identifier-a.ensures) (mark c.next_byte.ensures)) c.next_name-name.ensures.drawn)
-    (λ h o. rw c.between.ensures))
+returns c = c.then_pair.ensures _ _ identifier_leaf (search rules)

@@ -1,10 +1,10 @@
-use Rattle.grammar.specs.Drawing.{then, retold}
-use Rattle.spans.specs.Parts.{mark, number}
-use Rattle.fields.specs.Tokens.{pair}
+use Rattle.std.proofs.Common.{rules}
+use Rattle.meaning.specs.Pdl.{integer}
+use Rattle.lexis.specs.Leaves.{integer_leaf}
 use Rattle.fields.proofs.parts.then_numbers.Goals as goal
 
+pub then_pair-requires-clause-steps : goal.then_pair-requires-clause-steps
+then_pair-requires-clause-steps c = (integer, search rules)
+
 pub returns : goal.returns
-returns c = pair _ c.kept_span.ensures c.next_number-number.ensures.missed
-    (retold
-    (then (then (number c.then_integer-a.ensures) (mark c.next_byte.ensures)) c.next_number-number.ensures.drawn)
-    (λ h o. rw c.between.ensures))
+returns c = c.then_pair.ensures _ _ integer_leaf (search rules)

@@ -1,30 +1,20 @@
-use Rattle.grammar.specs.Drawing.{one, other, retold}
-use Rattle.spans.specs.Parts.{name, payload_name, body_name}
-use Rattle.spans.specs.declared.Target.TheVariants.{OfBody}
-use Rattle.spans.specs.Answers.{continue, continued}
+use Rattle.std.proofs.Common.{rules}
+use Rattle.lexis.specs.Leaves.{identifier_leaf, payload_identifier_leaf, body_identifier_leaf}
+use Rattle.spans.specs.Drawn.{draw_target}
 use Rattle.fields.proofs.parts.then_target.Goals as goal
 
-pub returns-in-Took : goal.returns-in-Took
-returns-in-Took c = let e = c.in-Took.is in
-    continued e (retold (one _ _ (one _ _ (name c.then_identifier-x.ensures) e) e) (λ h o. rw c.between.ensures)) tt
+pub or_part-payload-requires-clause-within : goal.or_part-payload-requires-clause-within
+or_part-payload-requires-clause-within c =
+    (c.requires, (c.then_part-field.ensures _ _ (λ x o. draw_target o x) identifier_leaf (search rules) (search rules)).drawn.steps.fits)
 
-pub returns-in-Took-y : goal.returns-in-Took-y
-returns-in-Took-y c = let e = c.in-Took-y.is in
-    continued e
-    (retold
-    (one _ _
-    (other _ c.then_identifier-x.ensures c.in_default.is c.optional-b.ensures.is
-    (payload_name c.then_payload_identifier-y.ensures))
-    e)
-    (λ h o. rw c.between-in-Took-y.ensures))
-    tt
+pub or_part-requires-clause-within : goal.or_part-requires-clause-within
+or_part-requires-clause-within c =
+    let field = c.then_part-field.ensures _ _ (λ x o. draw_target o x) identifier_leaf (search rules) (search rules) in (
+      c.requires,
+      (c.or_part-payload.ensures _ _ _ (λ x o. draw_target o x) _ field payload_identifier_leaf (search rules) (search rules)).drawn.steps.fits,
+    )
 
 pub returns : goal.returns
-returns c = continue (OfBody _)
-    (retold
-    (other _
-    (other _ c.then_identifier-x.ensures c.in_default.is c.optional-b.ensures.is
-    (payload_name c.then_payload_identifier-y.ensures)).steps
-    c.in_default-y.is c.optional-c.ensures.is (body_name c.then_body_identifier-z.ensures))
-    (λ h o. rw c.between-2.ensures))
-    (λ h. tt) c.kept_target.ensures
+returns c = let field = c.then_part-field.ensures _ _ (λ x o. draw_target o x) identifier_leaf (search rules) (search rules) in
+    let payload = c.or_part-payload.ensures _ _ _ (λ x o. draw_target o x) _ field payload_identifier_leaf (search rules) (search rules) in
+    c.or_part.ensures _ _ _ (λ x o. draw_target o x) _ payload body_identifier_leaf (search rules) (search rules)

@@ -1,5 +1,0 @@
-use Rattle.grammar.specs.Steps.{link}
-use Rattle.declarations.proofs.tests.then_comma.Goals as goal
-
-pub returns : goal.returns
-returns c = link c.then_literal.ensures (link c.then_blanks.ensures c.then_test_case.ensures)
