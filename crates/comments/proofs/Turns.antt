@@ -6,6 +6,7 @@ use mathlib.Core.List.{List, [], ◌++◌, append-nil, append_assoc}
 use mathlib.Core.Bool.{Bool, true, false}
 use lib.ListN.{length, get_or, take, drop, length-drop}
 use lib.Seq.{drop-drop}
+use Rattle.std.specs.Prelude.{Some, None, position}
 use Rattle.meaning.specs.declared.Match.{Match}
 use Rattle.meaning.specs.declared.Match.TheVariants.{Missed, Took}
 use Rattle.meaning.specs.Peg.{Peg, run, bytewise, hit, taken}
@@ -24,8 +25,8 @@ use Rattle.walk.specs.Steps.{wrote_as, goes_none, goes_then, goes_on}
 use Rattle.walk.specs.Totals.{fresh_at}
 use Rattle.comments.specs.Lex.{lex, lexical}
 use Rattle.comments.specs.LexLaws.{lex_none, lex_on, lex_comment, lex_string, lex_run, plain_byte, string_eats}
-use Rattle.comments.specs.Steps.{Comment, GoesComment, Past, stride}
-use Rattle.comments.proofs.Findings.{at_byte}
+use Rattle.comments.specs.Steps.{Comment, CommentAt, GoesComment, Past, stride, opens}
+use Rattle.comments.proofs.Findings.{at_byte, plain_up, plain_all}
 
 -- ---- the pass from an offset on
 taken_hit : (g : Peg) (t : List ℕ) → eats g ≡ true → taken (run g t) ≡ 0 → hit (run g t) ≡ false
@@ -84,26 +85,40 @@ module _ {src : List ℕ} {n : Walk} {a : Lent → Lent} {i : ℕ} {m : Walk} {b
   left_as : {ys : List Item} → onward src i ≡ ys → lexical src ≡ w.so_far ++ ys
   left_as e = w.left ∙ ap (λ (xs : List Item). w.so_far ++ xs) e
 
+  rest_long : i + length (take (length src - i) (drop i src)) ≡ length src
+  rest_long = omega (arith, ap length (rest_is i src), length-drop i src, w.goes.at.within)
+
   -- no comment up to j
   turn_on : {j : ℕ} → i ≤ j → j ≤ length src → onward src i ≡ onward src j → Turning src n a j m b
   turn_on e h o = record { so_far = w.so_far; goes = goes_on e h w.goes; left = left_as o }
 
-  pub turn_plain : {l : ℕ} → Runs plain_byte (take (length src - i) (drop i src)) l → Turning src n a (i + l) m b
+  turn_plain : {l : ℕ} → Runs plain_byte (take (length src - i) (drop i src)) l → Turning src n a (i + l) m b
   turn_plain {l} h =
       let e : l ≤ length (drop i src) = subst (λ (u : List ℕ). l ≤ length u) (rest_is i src) h.fits in
       turn_on (omega arith) (omega (arith, w.goes.at.within, length-drop i src)) (onward_plain src i h)
 
-  pub turn_past : {l k : ℕ} → i < length src → Comment src i l → l ≡ 0 → Past src i k → Turning src n a (i + k) m b
-  turn_past h c z p = turn_on (omega arith) p.fits (onward_past src i h c z p)
+  -- up to the next byte that may start a comment or a string
+  pub turn_up : {k : ℕ} → position opens (take (length src - i) (drop i src)) ≡ Some k → Turning src n a (i + k) m b
+  turn_up e = turn_plain (plain_up (take (length src - i) (drop i src)) e).0
 
-  pub turn_comment : {l : ℕ} {r : Walk} {d : Lent → Lent} → Comment src i l → (l ≡ 0 → ⊥) → GoesComment src i l m r b d → Turning src n a (i + l) r d
-  turn_comment c z g =
+  pub up_in : {k : ℕ} → position opens (take (length src - i) (drop i src)) ≡ Some k → i + k < length src
+  up_in e = omega (arith, (plain_up (take (length src - i) (drop i src)) e).1, rest_long)
+
+  pub turn_past : {k : ℕ} → i < length src → CommentAt src i None → Past src i k → Turning src n a (i + k) m b
+  turn_past h c p = turn_on (omega arith) p.fits (onward_past src i h c refl p)
+
+  pub turn_comment : {l : ℕ} {r : Walk} {d : Lent → Lent} → CommentAt src i (Some l) → GoesComment src i l m r b d → Turning src n a (i + l) r d
+  turn_comment c g =
       record {
         so_far = w.so_far ++ comment_row src i _;
         goes = goes_then w.goes g;
-        left = left_as (onward_comment src i c z) ∙ sym (append_assoc w.so_far (comment_row src i _) _);
+        left = left_as (onward_comment src i c.0 (λ z. absurd (omega (arith, c.1, z)))) ∙ sym (append_assoc w.so_far (comment_row src i _) _);
       }
 
-  pub turn_end : {d : Door} → n ≡ fresh d → length src ≤ i → Wrote (lexical src) (fresh d) m a b
+  -- no such byte is left
+  pub turn_end : {d : Door} → n ≡ fresh d → position opens (take (length src - i) (drop i src)) ≡ None → Wrote (lexical src) (fresh d) m a b
   turn_end e h =
-      subst (λ (z : Walk). Wrote (lexical src) z m a b) e (wrote_as (sym (left_as (onward_end src i h) ∙ append-nil w.so_far)) w.goes.wrote)
+      let p = onward_plain src i (plain_all (take (length src - i) (drop i src)) h) in
+      let q : length src ≤ i + length (take (length src - i) (drop i src)) = omega (arith, rest_long) in
+      subst (λ (z : Walk). Wrote (lexical src) z m a b) e
+      (wrote_as (sym (left_as (p ∙ onward_end src _ q) ∙ append-nil w.so_far)) w.goes.wrote)

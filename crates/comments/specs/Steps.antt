@@ -1,5 +1,7 @@
 -- What the functions say of a place in a source.
-use Rattle.std.specs.Prelude.{ℕ, zero, suc, ◌+◌, ◌≤◌, ◌<◌, ◌≡◌, List, false, length, drop}
+use Rattle.std.specs.Prelude.{ℕ, zero, suc, ◌+◌, ◌≤◌, ◌<◌, ◌≡◌, List, Option, Some, None, Bool, false, ◌==◌, ◌||◌, length, drop}
+use Rattle.meaning.specs.declared.Match.{Match}
+use Rattle.meaning.specs.declared.Match.TheVariants.{Missed, Took}
 use Rattle.meaning.specs.declared.SourceLocation.{SourceLocation}
 use Rattle.meaning.specs.Choice.{pick}
 use Rattle.meaning.specs.Quoted.{bytes}
@@ -10,15 +12,26 @@ use Rattle.meaning.specs.Tables.{Lent}
 use Rattle.meaning.specs.Walk.{comment_row}
 use Rattle.walk.specs.declared.Walk.{Walk}
 use Rattle.walk.specs.State.{At, Goes}
+use Rattle.comments.specs.declared.CommentKind.{CommentKind}
+use Rattle.comments.specs.declared.CommentKind.TheVariants.{Block, Line}
 
 -- from e on, no text starts that closes a block comment
 pub record Closed (s : List ℕ) (e : ℕ) : Type 0 where
   pub none : (j : ℕ) → e ≤ j → prefixb (bytes "*/") (drop j s) ≡ false
 
--- n bytes at offset i are a comment; 0: none is there
+-- n bytes at offset i are a comment, or n is 0 and none is there
 pub record Comment (s : List ℕ) (i n : ℕ) : Type 0 where
   pub is : n ≡ taken (run (bytewise COMMENT) (drop i s))
   pub fits : i + n ≤ length s
+
+-- so many bytes at offset i are a comment, or none is there
+abbrev pub CommentAt : List ℕ → ℕ → Option ℕ → Type 0
+CommentAt s i None = Comment s i 0
+CommentAt s i (Some n) = Comment s i n × (0 < n)
+
+abbrev pub length_of : Match → Option ℕ
+length_of (Missed f) = None
+length_of (Took n f) = Some n
 
 -- the walk has come to a comment of l bytes at offset i
 pub record Ready (s : List ℕ) (i l : ℕ) (n : Walk) : Type 0 where
@@ -40,9 +53,17 @@ pub record Past (s : List ℕ) (i n : ℕ) : Type 0 where
   pub fits : i + n ≤ length s
   pub on : 0 < n
 
--- a comment's kind, and its words
-unfoldable pub kind_of : List ℕ → ℕ → ℕ
-kind_of s i = pick (prefixb (bytes "/*") (drop i s)) 1 2
+-- a byte that may start a comment or a string
+abbrev pub opens : ℕ → Bool
+opens x = (x == 47) || (x == 34)
 
-abbrev pub words : ℕ → SourceLocation → SourceLocation → List ℕ
-words kind p q = comment_words kind (place_words p q)
+-- a comment's kind, and its words
+unfoldable pub kind_of : List ℕ → ℕ → CommentKind
+kind_of s i = pick (prefixb (bytes "/*") (drop i s)) Block Line
+
+abbrev pub word_of : CommentKind → ℕ
+word_of Block = 1
+word_of Line = 2
+
+abbrev pub words : CommentKind → SourceLocation → SourceLocation → List ℕ
+words kind p q = comment_words (word_of kind) (place_words p q)

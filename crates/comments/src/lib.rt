@@ -2,28 +2,23 @@
 // comment inside it is none.
 #![tactic(auto)]
 
-ghost use Rattle.std.specs.Prelude.{◌≡◌, ◌<◌, eqb, length};
-ghost use Rattle.meaning.specs.Choice.{both};
+ghost use Rattle.std.specs.Prelude.{◌≡◌, ◌<◌, length, position};
 ghost use Rattle.meaning.specs.Tables.{Table};
-ghost use Rattle.lexis.specs.Classes.{Runs};
 ghost use Rattle.walk.specs.State.{fresh, lend, Wrote};
-ghost use Rattle.comments.specs.LexLaws.{plain_byte};
 ghost use Rattle.comments.specs.Lex.{lexical};
-ghost use Rattle.comments.specs.Steps.{Closed, Comment, Ready, GoesComment, Past, kind_of, words};
+ghost use Rattle.comments.specs.Steps.{Closed, length_of, CommentAt, Ready, GoesComment, Past, opens, kind_of, words};
 
 use ast::numbers;
-use grammar::taken;
 use lexis::blanks::{comment, line_comment};
-use lexis::texts::literal;
 use lexis::tokens::string;
 use meaning::{Match, SourceLocation};
 use walk::{Door, Walk};
 
-// Whether the two bytes close a block comment.
-fn closes(a: u8, b: u8) -> bool
-    ensures { result ≡ both (eqb 42 a) (eqb 47 b) }
-{
-    if b'*' == a { b'/' == b } else { false }
+// A comment's kind, by the number in its row.
+#[derive(Clone, Copy)]
+enum CommentKind {
+    Block = 1,
+    Line = 2,
 }
 
 // An offset from which on no `*/` starts, just past the last one: unclosed comments are told by it, and not each followed to
@@ -31,29 +26,33 @@ fn closes(a: u8, b: u8) -> bool
 fn last_close(s: &[u8]) -> usize
     ensures { Closed s.now result }
 {
-    let mut i = s.len();
-    while 1 < i {
-        let found = closes(s[i - 2], s[i - 1]);
-        if found {
-            return i - 1;
+    for i in (1..s.len()).rev() {
+        if s[i - 1] == b'*' && s[i] == b'/' {
+            return i;
         }
-        i -= 1;
     }
     0
 }
 
-// How long the comment at `at` is; 0, if there is none. From `close` on no `*/` starts.
-fn comment_at(s: &[u8], at: usize, close: usize) -> usize
-    requires { (at < length s.now) × Closed s.now close }
-    ensures { Comment s.now at result }
+// How much a match took, if it is one.
+fn length_of(m: Match) -> Option<usize>
+    ensures { result ≡ length_of m }
 {
-    if s[at] != b'/' {
-        return 0;
+    match m {
+        Match::Missed(_) => None,
+        Match::Took(n, _) => Some(n),
     }
+}
+
+// How long the comment at `at` is, if there is one. From `close` on no `*/` starts.
+fn comment_at(s: &[u8], at: usize, close: usize) -> Option<usize>
+    requires { (at < length s.now) × Closed s.now close }
+    ensures { CommentAt s.now at result }
+{
     if close <= at {
-        return taken(line_comment(&s[at..]));
+        return length_of(line_comment(&s[at..]));
     }
-    taken(comment(&s[at..]))
+    length_of(comment(&s[at..]))
 }
 
 // How far the pass goes at `at`, where there is no comment: over a string, or over one byte.
@@ -61,50 +60,41 @@ fn past_at(s: &[u8], at: usize) -> usize
     requires { at < length s.now }
     ensures { Past s.now at result }
 {
-    if s[at] != b'"' {
-        return 1;
+    match string(&s[at..]) {
+        Match::Missed(_) => 1,
+        Match::Took(n, _) => n,
     }
-    let n = taken(string(&s[at..]));
-    if n == 0 {
-        return 1;
-    }
-    n
 }
 
-// How many bytes from the front start neither a comment nor a string.
-fn plain_run(s: &[u8]) -> usize
-    ensures { Runs plain_byte s.now result }
+// Where the first byte stands that may start a comment or a string.
+fn next_start(s: &[u8]) -> Option<usize>
+    ensures { result ≡ position opens s.now }
 {
-    let mut i = 0;
-    while i < s.len() {
-        if s[i] == b'/' {
-            return i;
-        }
-        if s[i] == b'"' {
-            return i;
-        }
-        i += 1;
-    }
-    i
+    s.iter().position(|&x| x == b'/' || x == b'"')
 }
 
-// A comment's kind: block 1, line 2.
-fn kind_at(s: &[u8], at: usize) -> u64
+// The kind of the comment at `at`.
+fn kind_at(s: &[u8], at: usize) -> CommentKind
     requires { at < length s.now }
     ensures { result ≡ kind_of s.now at }
 {
-    match literal(&s[at..], b"/*") {
-        Match::Took(_, _) => 1,
-        Match::Missed(_) => 2,
+    if s[at..].starts_with(b"/*") {
+        CommentKind::Block
+    } else {
+        CommentKind::Line
     }
 }
 
 // A comment's row: its kind, and the places of its start and its end.
-fn comment_row(kind: u64, p: SourceLocation, q: SourceLocation) -> [u64; numbers::COMMENT_WORDS]
+fn comment_row(
+    kind: CommentKind,
+    p: SourceLocation,
+    q: SourceLocation,
+) -> [u64; numbers::COMMENT_WORDS]
     ensures { result ≡ words kind p q }
 {
     [
-        kind,
+        kind as u64,
         p.offset as u64,
         p.line as u64,
         p.column as u64,
@@ -119,32 +109,28 @@ fn put_comment(s: &[u8], at: usize, len: usize, n: Walk, t: &mut [u64]) -> Walk
     requires { Ready s.now at len n }
     ensures { GoesComment s.now at len n result (lend Table.comments t.old) (lend Table.comments t.new) }
 {
-    let a = walk::to(s, n, at);
-    let b = walk::to(s, a, at + len);
-    let p = a.here;
-    let q = b.here;
-    let row = comment_row(kind_at(s, at), p, q);
-    walk::put(b, walk::COMMENTS, &row, t)
+    let a = n.to(s, at);
+    let b = a.to(s, at + len);
+    let row = comment_row(kind_at(s, at), a.here, b.here);
+    b.put(walk::Table::Comments, &row, t)
 }
 
 // The comments of a source: the row of each comes to the door.
 pub fn put_comments(s: &[u8], door: Door, t: &mut [u64]) -> Walk
     ensures { Wrote (lexical s.now) (fresh door) result (lend Table.comments t.old) (lend Table.comments t.new) }
 {
-    let mut n = walk::nothing(door);
-    let mut i: usize = 0;
+    let mut n = Walk::new(door);
     let close = last_close(s);
-    loop {
-        i += plain_run(&s[i..]);
-        if s.len() <= i {
-            return n;
-        }
-        let len = comment_at(s, i, close);
-        if len == 0 {
-            i += past_at(s, i);
-        } else {
-            n = put_comment(s, i, len, n, t);
-            i += len;
+    let mut i = 0;
+    while let Some(k) = next_start(&s[i..]) {
+        i += k;
+        match comment_at(s, i, close) {
+            Some(len) => {
+                n = put_comment(s, i, len, n, t);
+                i += len;
+            }
+            None => i += past_at(s, i),
         }
     }
+    n
 }

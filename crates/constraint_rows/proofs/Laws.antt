@@ -1,4 +1,5 @@
 -- What the functions over constraints ask of their callees, and what they come to.
+use Rattle.std.specs.Prelude.{Option, None, Some}
 use Prim.Native.Nat.{ℕ, ◌+◌, ◌-◌, ◌^◌, ◌≤◌, ◌<◌}
 use native.Mathlib.Omega.{arith}
 use mathlib.Core.Path.{◌≡◌, ap, subst, sym, ◌∙◌}
@@ -8,30 +9,29 @@ use Rattle.meaning.specs.Peg.{taken}
 use Rattle.meaning.specs.Pdl.{constraint_list}
 use Rattle.meaning.specs.Walk.{parse_constraint_list}
 use Rattle.spans.specs.declared.Span.{Span}
-use Rattle.spans.specs.declared.Part.{Part}
-use Rattle.spans.specs.declared.Part.TheVariants.{Absent, Here}
-use Rattle.spans.specs.Answers.{Constrained, Matched, MatchedPart}
+use Rattle.spans.specs.Answers.{Constrained, MatchedList, MatchedPart}
 use Rattle.grammar.specs.Limits.{draws_limits, took_inside}
 use Rattle.meaning.specs.Tables.{Table, size, row, Lent}
 use Rattle.spans.specs.declared.Constraint.{Constraint}
-use Rattle.spans.specs.declared.ConstraintMatch.{ConstraintMatch}
+use Rattle.spans.specs.declared.Matched.{Matched}
 use Rattle.walk.specs.declared.Number.{Number}
+use Rattle.walk.specs.declared.kinds.ConstraintKind.{ConstraintKind}
 use Rattle.walk.specs.declared.Name.{Name}
 use Rattle.walk.specs.declared.Walk.{Walk}
 use Rattle.walk.specs.declared.Door.TheVariants.{Write}
-use Rattle.walk.specs.State.{slot, counted, lend, after_integer, At, Goes, same, Came, Knows, Put}
-use Rattle.walk.specs.Steps.{Sound, tally, tally_is, wrote_none, wrote_then, wrote_in, wrote_as, same_counts, at_on, integer_goes}
+use Rattle.walk.specs.State.{slot, counted, lend, after_number, At, Goes, same, Came, Knows, Put}
+use Rattle.walk.specs.Steps.{tally, tally_is, wrote_none, wrote_then, wrote_in, wrote_as, same_counts, at_on, integer_goes}
 use Rattle.walk.specs.Doors.{put_asks, put_wrote, put_goes, stood}
-use Rattle.walk.specs.Lists.{GoesOne, GoesAll, found_drawn, found_some, found_in}
+use Rattle.walk.specs.Lists.{Ready, GoesOne, GoesAll, found_drawn, found_some, found_in}
 use Rattle.walk.specs.PartLists.{list_in, list_first, list_ends}
 use Rattle.walk.specs.Terms.{integer_items, operand_number, span_name, operand_name, constraint_kind, words_of_constraint, InsideOperand}
 use Rattle.walk.specs.Insides.{InsideConstraint, constraint_inside}
-use Rattle.walk.specs.Sounds.{operand_sound, constraint_sized}
-use Rattle.constraint_rows.specs.Constraints.{constraint_form, row_words, row_end, none_item, own_items, Placed, GoesRow, Ready}
+use Rattle.walk.specs.Sounds.{constraint_sized}
+use Rattle.constraint_rows.specs.Constraints.{constraint_form, row_words, row_end, none_item, own_items, Placed, GoesRow}
 use Rattle.constraint_rows.specs.OptionalLists.{constraint_rule, part_list, Begun, GoesPart}
 
 -- ---- one row: the walk comes to its start as a, and to its end as b
-module _ {src : List ℕ} {at : ℕ} {c : Constraint} {v : Number} {n : Walk} (w : Placed src at c v n) where
+module _ {src : List ℕ} {at : ℕ} {c : Constraint} {v : Option Number} {n : Walk} (w : Placed src at c v n) where
   row_in : row_end at c ≤ length src
   row_in = omega (arith, w.inside.span, w.within)
 
@@ -46,7 +46,7 @@ module _ {src : List ℕ} {at : ℕ} {c : Constraint} {v : Number} {n : Walk} (w
       pub row_asks : length src < 2 ^ 64 → Knows b (slot Table.constraints)
       row_asks s = put_asks Table.constraints (at_on row_in (omega arith) cb.goes.at) (omega (arith, same_count, w.spare)) s
 
-      pub row_done : {r : Walk} {kind : ℕ} {id tag : Name} {ws t t' : List ℕ} → id ≡ span_name at c.id → tag ≡ operand_name at c.value
+      pub row_done : {r : Walk} {kind : ConstraintKind} {id tag : Name} {ws t t' : List ℕ} → id ≡ span_name at c.id → tag ≡ operand_name at c.value
           → kind ≡ constraint_kind c.value → ws ≡ words_of_constraint kind a.here b.here id tag v → Put (slot Table.constraints) ws b r t t'
           → GoesRow src at c n r (lend Table.constraints t) (lend Table.constraints t')
       unfolding row_words
@@ -68,9 +68,9 @@ module _ {src : List ℕ} {at : ℕ} {c : Constraint} {v : Number} {n : Walk} (w
               ew ∙ rw (ek, stood ca en, stood cb ea, ei, et, w.number)
 
 -- ---- one constraint of a list
-module _ {src : List ℕ} {at : ℕ} {m : ConstraintMatch} {n : Walk} (w : Ready src at m n) where
+module _ {src : List ℕ} {at : ℕ} {m : Matched Constraint} {n : Walk} (w : Ready constraint_form src at m n) where
   abbrev c : Constraint
-  c = m.constraint
+  c = m.value
 
   within : taken m.at ≤ length src - at
   within = took_inside src at w.found.within (found_drawn w.found).reads
@@ -84,9 +84,9 @@ module _ {src : List ℕ} {at : ℕ} {m : ConstraintMatch} {n : Walk} (w : Ready
   pub number_ready : (at ≤ length src) × InsideOperand (length src - at) c.value
   number_ready = (w.found.within, inside.value)
 
-  module _ {v : Number} {k : Walk} (ev : v ≡ operand_number src at c.value) (ek : k ≡ after_integer v.place v.reason n) where
+  module _ {v : Option Number} {k : Walk} (ev : v ≡ operand_number src at c.value) (ek : k ≡ after_number v n) where
     noting : (a : Lent → Lent) → Goes (integer_items v) src at n k a a
-    noting a = integer_goes (subst Sound (sym ev) (operand_sound src at c.value)) a ek w.came
+    noting a = integer_goes v a ek w.came
 
     pub row_ready : Placed src at c v k
     row_ready =
@@ -103,32 +103,32 @@ module _ {src : List ℕ} {at : ℕ} {m : ConstraintMatch} {n : Walk} (w : Ready
     one_done {r} {t} {t'} g =
         record {
           wrote = λ xs ta.
-              wrote_as (ap (λ (x : Number). integer_items x ++ row Table.constraints (row_words src at c) ∷ []) ev ∙ sym (own_items src at c))
+              wrote_as (ap (λ (x : Option Number). integer_items x ++ row Table.constraints (row_words src at c) ∷ []) ev ∙ sym (own_items src at c))
               (wrote_then (noting (lend Table.constraints t)).wrote g.wrote);
           came = g.came (at + taken m.at) ends (found_in w.found) (omega (arith, (noting same).at.few Table.constraints, found_some w.found));
         }
 
 -- ---- the constraints that a part says
 module _ {src : List ℕ} {at : ℕ} {n : Walk} where
-  pub part_none : {g : Part} (a : Lent → Lent) → g ≡ Absent → Begun src at g n → GoesPart src at g n n a a
+  pub part_none : {g : Option Span} (a : Lent → Lent) → g ≡ None → Begun src at g n → GoesPart src at g n n a a
   part_none a e w =
-      subst (λ (x : Part). GoesPart src at x n n a a) (sym e)
+      subst (λ (x : Option Span). GoesPart src at x n n a a) (sym e)
       (record { wrote = wrote_as (sym (none_item src)) (wrote_none n a); came = λ lo hi h i k. at_on h i w.came })
 
-  module _ {p : Part} {g : Span} (w : Begun src at p n) (e : p ≡ Here g) where
-    there : Matched constraint_list (drop at src) g
-    there = subst (λ (x : Part). MatchedPart constraint_list (drop at src) x) e w.list
+  module _ {p : Option Span} {g : Span} (w : Begun src at p n) (e : p ≡ Some g) where
+    there : MatchedList constraint_list (drop at src) g
+    there = subst (λ (x : Option Span). MatchedPart constraint_list (drop at src) x) e w.list
 
     pub part_in : at + g.start ≤ length src
     part_in = omega (arith, list_in constraint_form constraint_rule src at there)
 
-    pub part_ready : {m : ConstraintMatch} → Constrained (take (length src - (at + g.start)) (drop (at + g.start) src)) m
-        → Ready src (at + g.start) m n
+    pub part_ready : {m : Matched Constraint} → Constrained (take (length src - (at + g.start)) (drop (at + g.start) src)) m
+        → Ready constraint_form src (at + g.start) m n
     part_ready {m} d = record { came = at_on (omega arith) part_in w.came; found = list_first constraint_form constraint_rule src at there m d }
 
     pub part_done : {r : Walk} {a b : Lent → Lent} → GoesAll constraint_form src (at + g.start) n r a b → GoesPart src at p n r a b
     part_done {r} {a} {b} k =
-        subst (λ (x : Part). GoesPart src at x n r a b) (sym e)
+        subst (λ (x : Option Span). GoesPart src at x n r a b) (sym e)
         (record {
           wrote = wrote_as (ap (parse_constraint_list src) (sym (part_list src at there))) (k.wrote (tally n) (tally_is n));
           came = λ lo hi h i d. at_on (list_ends constraint_form constraint_rule src at there lo hi d) i k.came;

@@ -1,5 +1,5 @@
 -- A constraint in the words of its spans: its row, what writing it needs, and the form of a list of constraints.
-use Rattle.std.specs.Prelude.{ℕ, ◌+◌, ◌-◌, ◌≤◌, ◌<◌, ◌≡◌, refl, List, [], ◌∷◌, ◌++◌, true, length}
+use Rattle.std.specs.Prelude.{ℕ, ◌+◌, ◌-◌, ◌≤◌, ◌<◌, ◌≡◌, refl, List, [], ◌∷◌, ◌++◌, true, length, Option}
 use Rattle.std.proofs.Common.{ap, ap₂, sym, ◌∙◌, append-nil}
 use Rattle.meaning.specs.Peg.{bytewise}
 use Rattle.meaning.specs.Forest.{Forest, nil, ◌⊕◌}
@@ -9,7 +9,6 @@ use Rattle.meaning.specs.Tables.{Table, Item, row, Lent}
 use Rattle.meaning.specs.Walk.{each, parse_constraint_list}
 use Rattle.grammar.specs.Matching.{eats}
 use Rattle.spans.specs.declared.Constraint.{Constraint}
-use Rattle.spans.specs.declared.ConstraintMatch.{ConstraintMatch}
 use Rattle.spans.specs.Drawn.{draw_constraint}
 use Rattle.spans.specs.Answers.{Constrained}
 use Rattle.walk.specs.declared.Number.{Number}
@@ -18,7 +17,7 @@ use Rattle.walk.specs.Insides.{InsideConstraint}
 use Rattle.walk.specs.Terms.{integer_items, operand_number, span_name, operand_name, constraint_kind, words_of_constraint}
 use Rattle.walk.specs.DrawnItems.{constraint_items, constraint_words}
 use Rattle.walk.specs.State.{counted, Wrote, At}
-use Rattle.walk.specs.Lists.{Form, Found}
+use Rattle.walk.specs.Lists.{Form}
 
 -- its row, of the text that stands at o
 unfoldable pub row_words : List ℕ → ℕ → Constraint → List ℕ
@@ -53,24 +52,23 @@ unfolding constraint identifier alpha
 eats_constraint = refl
 
 -- ---- a list of them
-abbrev pub constraint_form : Form ConstraintMatch
+abbrev pub constraint_form : Form Constraint
 constraint_form =
     record {
       peg = constraint;
-      match = λ c. c.at;
-      draw = λ c t o. draw_constraint o c.constraint;
+      draw = λ c t o. draw_constraint o c.value;
       Answered = Constrained;
       drawn = λ t c h. h.drawn;
       items = λ src xs w. parse_constraint_list src w;
       some = eats_constraint;
       none = λ src xs. none_item src;
-      one = λ src xs c t o w. one_item src o c.constraint w
-          ∙ ap (λ (ys : List Item). ys ++ parse_constraint_list src w) (sym (own_items src o c.constraint));
+      one = λ src xs c t o w. one_item src o c.value w
+          ∙ ap (λ (ys : List Item). ys ++ parse_constraint_list src w) (sym (own_items src o c.value));
     }
 
 -- ---- what writing asks
 -- it has come to where the constraint stands, whose spans lie inside the text at `at`; v is its number
-pub record Placed (src : List ℕ) (at : ℕ) (c : Constraint) (v : Number) (n : Walk) : Type 0 where
+pub record Placed (src : List ℕ) (at : ℕ) (c : Constraint) (v : Option Number) (n : Walk) : Type 0 where
   pub within : at ≤ length src
   pub came : At src (at + c.span.start) n
   pub number : v ≡ operand_number src at c.value
@@ -81,8 +79,3 @@ pub record Placed (src : List ℕ) (at : ℕ) (c : Constraint) (v : Number) (n :
 pub record GoesRow (src : List ℕ) (at : ℕ) (c : Constraint) (n r : Walk) (a b : Lent → Lent) : Type 0 where
   pub wrote : Wrote (row Table.constraints (row_words src at c) ∷ []) n r a b
   pub came : (hi : ℕ) → row_end at c ≤ hi → hi ≤ length src → counted Table.constraints n < hi → At src hi r
-
--- it has come to the match m of a constraint
-pub record Ready (src : List ℕ) (at : ℕ) (m : ConstraintMatch) (n : Walk) : Type 0 where
-  pub came : At src at n
-  pub found : Found constraint_form src at m

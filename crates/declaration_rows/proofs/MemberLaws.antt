@@ -1,37 +1,36 @@
 -- The members of a declaration: what the walk over them asks, and what it comes to.
-use Prim.Native.Nat.{ℕ, ◌+◌, ◌-◌, ◌≤◌, ◌<◌}
+use Prim.Native.Nat.{ℕ, ◌+◌, ◌-◌, ◌≤◌}
 use native.Mathlib.Omega.{arith}
 use mathlib.Core.Path.{◌≡◌, refl, ap, subst, sym, ◌∙◌}
 use mathlib.Core.List.{List}
-use mathlib.Core.Bool.{Bool, true, false}
+use mathlib.Core.Logic.{◌⊎◌, inl, inr}
+use mathlib.Core.Bool.{true, false}
 use lib.ListN.{length, take, drop}
-use lib.Dec.{eqb, ltb}
-use borrow.Author.Tests.{eq-eqb, ne_eqb, lt-ltb, le-ltb}
-use Rattle.meaning.specs.Choice.{pick}
 use Rattle.meaning.specs.Rules.{Rule, is}
 use Rattle.meaning.specs.Peg.{seq, run, bytewise, hit, taken}
 use Rattle.meaning.specs.Pdl.{text, skip, enum_tag, enum_tag_list, field, field_list}
-use Rattle.meaning.specs.Tables.{Table, Lent}
-use Rattle.grammar.specs.Steps.{reads, at, rest_is}
+use Rattle.meaning.specs.Tables.{Table, Item, Lent}
+use Rattle.grammar.specs.Steps.{reads, at}
 use Rattle.grammar.specs.Limits.{run_inside}
-use Rattle.lexis.specs.Skips.{Skips}
-use Rattle.spans.specs.declared.TagMatch.{TagMatch}
-use Rattle.spans.specs.declared.FieldMatch.{FieldMatch}
+use Rattle.spans.specs.declared.Matched.{Matched}
+use Rattle.spans.specs.declared.Tag.{Tag}
+use Rattle.spans.specs.declared.Field.{Field}
 use Rattle.spans.specs.Answers.{Enumerated, Fielded}
 use Rattle.walk.specs.declared.Walk.{Walk}
 use Rattle.walk.specs.declared.Walked.{Walked}
-use Rattle.walk.specs.State.{counted, lend, At}
+use Rattle.walk.specs.State.{lend, At}
+use Rattle.walk.specs.Lending.{four}
 use Rattle.walk.specs.Steps.{wrote_none, wrote_in, wrote_as, at_on}
 use Rattle.walk.specs.Listing.{last, list_of}
 use Rattle.walk.specs.Ends.{list_ends}
-use Rattle.walk.specs.Lists.{Form, GoesList, stop, found_at}
-use Rattle.tag_rows.specs.Tags as T
+use Rattle.walk.specs.Lists.{Form, Ready, GoesList, stop, found_at}
 use Rattle.tag_rows.specs.Tags.{tag_form}
-use Rattle.field_rows.specs.Fields as F
 use Rattle.field_rows.specs.Fields.{field_form}
-use Rattle.declaration_rows.specs.Ways.{three}
-use Rattle.declaration_rows.specs.Braces.{list_start, list_within}
-use Rattle.declaration_rows.specs.Members.{list_end, closing, members_of, Tagged, GoesTags, GoesFields, Membered, GoesMembers}
+use Rattle.declaration_rows.specs.Braces.{past_blanks, past_within}
+use Rattle.declaration_rows.specs.declared.kinds.Kind.{Kind}
+use Rattle.declaration_rows.specs.declared.kinds.Kind.TheVariants.{Enum, Packet, Struct, Group, Checksum, CustomField}
+use Rattle.declaration_rows.specs.Members.{list_end, closing, past_comma, past_brace, tag_items, tag_end, field_items, field_end, Tagged, GoesTags, GoesFields, Membered, GoesMembers}
+use Rattle.declaration_rows.specs.Ways.{GoesTo}
 
 -- ---- where a list ends whose first item is at i
 list_past : {A : Type 0} (z : Form A) (k : Rule) → is Rule.COMMENT k ≡ false → (src : List ℕ) (i : ℕ) → hit (run (bytewise z.peg) (drop i src)) ≡ true
@@ -43,24 +42,25 @@ module _ {A : Type 0} {z : Form A} {src : List ℕ} {i : ℕ} {n : Walk} {r : Wa
   pub list_in : r.end ≤ length src
   list_in = omega (arith, g.end, g.all.came.within)
 
-  list_came : {j : ℕ} → j ≡ list_end src r.end → At src j r.walk
-  list_came l = at_on (omega (arith, l, g.end)) (omega (arith, l, run_inside src r.end last list_in)) g.all.came
+  list_came : At src (list_end src r.end) r.walk
+  list_came = at_on (omega (arith, g.end)) (run_inside src r.end last list_in) g.all.came
 
 -- ---- tags
 module _ {src : List ℕ} {i : ℕ} {n : Walk} (w : Tagged src i n) where
-  pub tags_ready : {m : TagMatch} → Enumerated enum_tag (take (length src - i) (drop i src)) m → T.Ready tag_form src i m n
+  pub tags_ready : {m : Matched Tag} → Enumerated enum_tag (take (length src - i) (drop i src)) m → Ready tag_form src i m n
   tags_ready {m} d = record { came = w.came; found = found_at m w.came.within d (ap hit (at i src d.drawn.reads).is ∙ w.hits) }
 
   tags_past : list_end src (stop tag_form src i) ≡ i + taken (run (bytewise enum_tag_list) (drop i src))
   unfolding enum_tag_list
   tags_past = list_past tag_form Rule.enum_tag_list refl src i w.hits
 
-  pub tags_done : {r : Walked} {a b : Lent → Lent} {j : ℕ} → GoesList tag_form src i n r a b → j ≡ list_end src r.end
-      → GoesTags src i n (record { walk = r.walk; end = j }) a b
-  tags_done g l = record { wrote = g.all.wrote; came = list_came g l; ends = l ∙ ap (list_end src) g.end ∙ tags_past }
+  pub tags_done : {r z : Walked} {a b : Lent → Lent} → GoesList tag_form src i n r a b → z ≡ past_comma src r → GoesTags src i n z a b
+  tags_done {r} {z} {a} {b} g q =
+      subst (λ (y : Walked). GoesTags src i n y a b) (sym q)
+      (record { wrote = g.all.wrote; came = list_came g; ends = ap (list_end src) g.end ∙ tags_past })
 
 -- ---- fields, if one matches
-module _ {src : List ℕ} {i : ℕ} {n : Walk} (w : At src i n) (m : FieldMatch) (d : Fielded (take (length src - i) (drop i src)) m) where
+module _ {src : List ℕ} {i : ℕ} {n : Walk} (w : At src i n) (m : Matched Field) (d : Fielded (take (length src - i) (drop i src)) m) where
   hit_is : hit m.at ≡ hit (run (bytewise field) (drop i src))
   hit_is = ap hit (at i src d.drawn.reads).is
 
@@ -77,86 +77,75 @@ module _ {src : List ℕ} {i : ℕ} {n : Walk} (w : At src i n) (m : FieldMatch)
     hits : hit (run (bytewise field) (drop i src)) ≡ true
     hits = sym hit_is ∙ h
 
-    pub fields_ready : F.Ready src i m n
+    pub fields_ready : Ready field_form src i m n
     fields_ready = record { came = w; found = found_at m w.within d h }
 
     fields_past : list_end src (stop field_form src i) ≡ i + taken (run (bytewise field_list) (drop i src))
     unfolding field_list
     fields_past = list_past field_form Rule.field_list refl src i hits
 
-    pub fields_done : {r : Walked} {a b : Lent → Lent} {j : ℕ} → GoesList field_form src i n r a b → j ≡ list_end src r.end
-        → GoesFields src i n (record { walk = r.walk; end = j }) a b
-    fields_done g l =
-        record {
+    pub fields_done : {r z : Walked} {a b : Lent → Lent} → GoesList field_form src i n r a b → z ≡ past_comma src r → GoesFields src i n z a b
+    fields_done {r} {z} {a} {b} g q =
+        subst (λ (y : Walked). GoesFields src i n y a b) (sym q)
+        (record {
           wrote = λ xs t. wrote_as (rw hits refl) (g.all.wrote xs t);
-          came = list_came g l;
-          ends = l ∙ ap (list_end src) g.end ∙ fields_past ∙ rw hits refl;
-        }
+          came = list_came g;
+          ends = ap (list_end src) g.end ∙ fields_past ∙ rw hits refl;
+        })
+
+-- ---- with more tables lent
+goes_in : {items : List Item → List Item} {src : List ℕ} {e : ℕ} {n : Walk} {r : Walked} {a b : Lent → Lent} (f : Lent → Lent) → GoesTo items src e n r a b
+    → GoesTo items src e n r (λ l. a (f l)) (λ l. b (f l))
+goes_in f g = record { wrote = λ xs t. wrote_in f (g.wrote xs t); came = g.came; ends = g.ends }
 
 -- ---- the members of a kind, behind a head that ends at e
-module _ {src : List ℕ} {e k : ℕ} {n : Walk} (w : Membered src e k n) where
+module _ {src : List ℕ} {e : ℕ} {n : Walk} (w : At src e n) where
   -- a kind without braces
-  pub bare_done : (a : Lent → Lent) → 4 < k → GoesMembers src e k n (record { walk = n; end = e }) a a
-  bare_done a h =
-      let p : ltb 4 k ≡ true = lt-ltb 4 k h in
-      let q : eqb k 1 ≡ false = ne_eqb k 1 (λ z. omega (arith, z, h)) in
-      record {
-        wrote = λ xs t. wrote_as (rw (q, p) refl) (wrote_none n a);
-        came = w.came;
-        ends = rw p refl;
-      }
+  pub bare_done : {k : Kind} (a : Lent → Lent) → (k ≡ Checksum) ⊎ (k ≡ CustomField) → GoesMembers src e k n (record { walk = n; end = e }) a a
+  bare_done a (inl h) = rw h (record { wrote = λ xs t. wrote_none n a; came = w; ends = refl })
+  bare_done a (inr h) = rw h (record { wrote = λ xs t. wrote_none n a; came = w; ends = refl })
 
-  -- m blanks stand behind the head
-  module _ (h : k ≤ 4) {m : ℕ} (sk : Skips (take (length src - e) (drop e src)) m) where
-    start_is : e + m ≡ list_start src e
-    start_is = ap (λ (j : ℕ). e + j) (sym (ap taken (subst (λ (u : List ℕ). Skips u m) (rest_is e src) sk).is))
+  -- i is behind the blanks that follow the head
+  module _ {i : ℕ} (start_is : i ≡ past_blanks src e) where
+    pub start_in : i ≤ length src
+    start_in = omega (arith, start_is, past_within src e w.within)
 
-    pub start_in : e + m ≤ length src
-    start_in = omega (arith, start_is, list_within src e w.came.within)
+    pub start_came : At src i n
+    start_came = at_on (omega (arith, start_is)) start_in w
 
-    pub start_came : At src (e + m) n
-    start_came = at_on (omega arith) start_in w.came
+    pub tagged_ready : {k : Kind} → Membered src e k n → k ≡ Enum → Tagged src i n
+    tagged_ready g z = record { came = start_came; hits = ap (λ (y : ℕ). hit (run (bytewise enum_tag) (drop y src))) start_is ∙ g.tagged z }
 
-    braced : ltb 4 k ≡ false
-    braced = le-ltb 4 k h
-
-    module _ {r : Walked} {j : ℕ} (ej : j ≡ closing src r.end) where
-      closed_came : At src r.end r.walk → At src j r.walk
-      closed_came c = at_on (omega (arith, ej)) (omega (arith, ej, run_inside src r.end (seq skip (text "}")) c.within)) c
+    -- r has come to the end of the members, z behind the brace
+    module _ {r z : Walked} (q : z ≡ past_brace src r) where
+      braced : (items : ℕ → List Item → List Item) (stop : ℕ → ℕ) {a b : Lent → Lent} → GoesTo (items i) src (stop i) n r a b
+          → GoesTo (items (past_blanks src e)) src (closing src (stop (past_blanks src e))) n z a b
+      braced items stop {a} {b} g0 =
+          let g : GoesTo (items (past_blanks src e)) src (stop (past_blanks src e)) n r a b =
+          subst (λ (y : ℕ). GoesTo (items y) src (stop y) n r a b) start_is g0 in
+          subst (λ (y : Walked). GoesTo (items (past_blanks src e)) src (closing src (stop (past_blanks src e))) n y a b) (sym q)
+          (record {
+            wrote = g.wrote;
+            came = at_on (omega arith) (run_inside src r.end (seq skip (text "}")) g.came.within) g.came;
+            ends = ap (closing src) g.ends;
+          })
 
       -- those of an enum are tags
-      pub tags_closed : (f c : List ℕ) {t t' : List ℕ} → k ≡ 1 → GoesTags src (e + m) n r (lend Table.tags t) (lend Table.tags t')
-          → GoesMembers src e k n (record { walk = r.walk; end = j }) (three f t c) (three f t' c)
-      tags_closed f c {t} {t'} z g0 =
-          let g : GoesTags src (list_start src e) n r (lend Table.tags t) (lend Table.tags t') =
-          subst (λ (i : ℕ). GoesTags src i n r (lend Table.tags t) (lend Table.tags t')) start_is g0 in
-          let q : eqb k 1 ≡ true = eq-eqb k 1 z in
-          record {
-            wrote = λ xs a. wrote_as (rw q refl) (wrote_in (λ l. lend Table.fields f (lend Table.constraints c l)) (g.wrote xs a));
-            came = closed_came g.came;
-            ends = ej ∙ ap (closing src) g.ends ∙ rw (braced, q) refl;
-          }
+      pub tags_closed : {k : Kind} (d f c : List ℕ) {t t' : List ℕ} → k ≡ Enum → GoesTags src i n r (lend Table.tags t) (lend Table.tags t')
+          → GoesMembers src e k n z (four d f t c) (four d f t' c)
+      tags_closed d f c {t} {t'} h g =
+          rw h (goes_in (λ l. lend Table.declarations d (lend Table.fields f (lend Table.constraints c l))) (braced (tag_items src) (tag_end src) g))
 
-      -- those of all others are fields
-      pub fields_closed : (t : List ℕ) {f f' c c' : List ℕ} → (k ≡ 1 → ⊥)
-          → GoesFields src (e + m) n r (λ l. lend Table.fields f (lend Table.constraints c l)) (λ l. lend Table.fields f' (lend Table.constraints c' l))
-          → GoesMembers src e k n (record { walk = r.walk; end = j }) (three f t c) (three f' t c')
-      fields_closed t {f} {f'} {c} {c'} z g0 =
-          let g = subst (λ (i : ℕ). GoesFields src i n r (λ l. lend Table.fields f (lend Table.constraints c l))
-          (λ l. lend Table.fields f' (lend Table.constraints c' l))) start_is g0 in
-          let q : eqb k 1 ≡ false = ne_eqb k 1 z in
-          record {
-            wrote = λ xs a. wrote_as (rw (q, braced) refl) (wrote_in (lend Table.tags t) (g.wrote xs a));
-            came = closed_came g.came;
-            ends = ej ∙ ap (closing src) g.ends ∙ rw (braced, q) refl;
-          }
+      -- those of all others that have braces are fields
+      pub fields_closed : {k : Kind} (d t : List ℕ) {f f' c c' : List ℕ} → (k ≡ Packet) ⊎ ((k ≡ Struct) ⊎ (k ≡ Group))
+          → GoesFields src i n r (λ l. lend Table.fields f (lend Table.constraints c l)) (λ l. lend Table.fields f' (lend Table.constraints c' l))
+          → GoesMembers src e k n z (four d f t c) (four d f' t c')
+      fields_closed {k} d t {f} {f'} {c} {c'} h g = go h
+        where
+          all : GoesMembers src e Packet n z (four d f t c) (four d f' t c')
+          all = goes_in (λ l. lend Table.declarations d (lend Table.tags t l)) (braced (field_items src) (field_end src) g)
 
-    pub tagged_ready : k ≡ 1 → Tagged src (e + m) n
-    tagged_ready z = record { came = start_came; hits = ap (λ (i : ℕ). hit (run (bytewise enum_tag) (drop i src))) start_is ∙ w.tagged z }
-
--- ---- how many there are by now
-pub members_tags : (k : ℕ) (n : Walk) → k ≡ 1 → counted Table.tags n ≡ members_of k n
-members_tags k n e = ap (λ (b : Bool). counted (pick b Table.tags Table.fields) n) (sym (eq-eqb k 1 e))
-
-pub members_fields : (k : ℕ) (n : Walk) → (k ≡ 1 → ⊥) → counted Table.fields n ≡ members_of k n
-members_fields k n e = ap (λ (b : Bool). counted (pick b Table.tags Table.fields) n) (sym (ne_eqb k 1 e))
+          go : (k ≡ Packet) ⊎ ((k ≡ Struct) ⊎ (k ≡ Group)) → GoesMembers src e k n z (four d f t c) (four d f' t c')
+          go (inl q) = rw q all
+          go (inr (inl q)) = rw q all
+          go (inr (inr q)) = rw q all

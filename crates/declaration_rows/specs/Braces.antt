@@ -14,12 +14,12 @@ use Rattle.grammar.specs.Drawing.{Draws, whole, opened, drawn, then, draws_rule}
 use Rattle.lexis.specs.Skips.{skips}
 use Rattle.spans.specs.Parts.{gap, mark}
 
--- where a list stands behind a head that ends at e
-abbrev pub list_start : List ℕ → ℕ → ℕ
-list_start src e = e + taken (run (bytewise skip) (drop e src))
+-- behind the blanks that stand at e
+abbrev pub past_blanks : List ℕ → ℕ → ℕ
+past_blanks src e = e + taken (run (bytewise skip) (drop e src))
 
-pub list_within : (src : List ℕ) (e : ℕ) → e ≤ length src → list_start src e ≤ length src
-list_within src e h = omega (arith, (skips (drop e src)).fits, length-drop e src)
+pub past_within : (src : List ℕ) (e : ℕ) → e ≤ length src → past_blanks src e ≤ length src
+past_within src e h = omega (arith, (skips (drop e src)).fits, length-drop e src)
 
 module _ (r : Rule) (c : is Rule.COMMENT r ≡ false) (h l : Peg) (src : List ℕ) (at : ℕ) {m : Match} {w : ℕ → Forest} (d : Draws h (drop at src) m w) where
   abbrev t : List ℕ
@@ -63,25 +63,25 @@ module _ (r : Rule) (c : is Rule.COMMENT r ≡ false) (h l : Peg) (src : List �
     head_hits = hit_before m (λ u. run (bytewise skip) u) t h1
 
     -- where the list stands
-    place_is : at + taken b1 ≡ list_start src (at + taken m)
+    place_is : at + taken b1 ≡ past_blanks src (at + taken m)
     place_is = omega (arith, taken_after m (λ u. run (bytewise skip) u) t h1, ap (λ (u : List ℕ). taken (run (bytewise skip) u)) (drop-drop (taken m) at src))
 
-    rest_at : drop (taken b1) (drop at src) ≡ drop (list_start src (at + taken m)) src
+    rest_at : drop (taken b1) (drop at src) ≡ drop (past_blanks src (at + taken m)) src
     rest_at = drop-drop (taken b1) at src ∙ ap (λ (i : ℕ). drop i src) place_is
 
-    pub list_hits : hit (run (bytewise l) (drop (list_start src (at + taken m)) src)) ≡ true
+    pub list_hits : hit (run (bytewise l) (drop (past_blanks src (at + taken m)) src)) ≡ true
     list_hits = ap (λ (u : List ℕ). hit (run (bytewise l) u)) (sym rest_at) ∙ hit_behind b1 (λ u. run (bytewise l) u) t h2
 
     pub braced_nodes : nodes (bytewise (rule r (seq (seq h (seq skip l)) (seq skip (text "}"))))) at (drop at src)
         ≡ tree r at (taken (run (bytewise (rule r (seq (seq h (seq skip l)) (seq skip (text "}"))))) (drop at src)))
-        (w at ⊕ nodes (bytewise l) (list_start src (at + taken m)) (drop (list_start src (at + taken m)) src)) nil
+        (w at ⊕ nodes (bytewise l) (past_blanks src (at + taken m)) (drop (past_blanks src (at + taken m)) src)) nil
     braced_nodes =
         all.draws h3 at
         ∙ ap₂ (λ (n : ℕ) (v : Forest). tree r at n v nil) (ap taken all.reads.is)
         (nil_right _ ∙ ap (λ (v : Forest). w at ⊕ v) (ap₂ (λ (i : ℕ) (u : List ℕ). nodes (bytewise l) i u) place_is rest_at))
 
     -- where the whole ends: j is where the list does
-    pub braced_ends : (j : ℕ) → j ≡ list_start src (at + taken m) + taken (run (bytewise l) (drop (list_start src (at + taken m)) src))
+    pub braced_ends : (j : ℕ) → j ≡ past_blanks src (at + taken m) + taken (run (bytewise l) (drop (past_blanks src (at + taken m)) src))
         → at + taken (run (bytewise (rule r (seq (seq h (seq skip l)) (seq skip (text "}"))))) (drop at src)) ≡ j + taken
         (run (bytewise (seq skip (text "}"))) (drop j src))
     braced_ends j e =

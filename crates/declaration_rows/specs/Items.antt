@@ -1,5 +1,5 @@
 -- What the walk makes of a declaration whose nodes its head's spans draw: its items, in the words of the head.
-use Rattle.std.specs.Prelude.{ℕ, ◌+◌, ◌≡◌, false}
+use Rattle.std.specs.Prelude.{ℕ, ◌+◌, ◌≡◌, false, Option, None, Some}
 use Rattle.std.proofs.Math.Path.{refl}
 use Rattle.std.proofs.Common.{ap, ap₂, ◌∙◌}
 use mathlib.Core.List.{List, [], ◌∷◌, ◌++◌, append-nil}
@@ -13,8 +13,7 @@ use Rattle.meaning.specs.Rows.{declaration_words}
 use Rattle.meaning.specs.Walk as W
 use Rattle.meaning.specs.Walk.{node, part, following, each, place, name, unquoted, optional, number, parse_constraint_list, parse_enum_tag, parse_field_list, parse_declaration}
 use Rattle.grammar.specs.Nodes.{⊕-assoc}
-use Rattle.spans.specs.declared.Part.{Part}
-use Rattle.spans.specs.declared.Part.TheVariants.{Absent, Here}
+use Rattle.spans.specs.declared.Span.{Span}
 use Rattle.spans.specs.declared.Header.{Header}
 use Rattle.spans.specs.Drawn.{draw_part, list_at, draw_header}
 use Rattle.walk.specs.Terms.{number_at, part_number, integer_items, span_name, name_words, number_words, part_name, other_name, words_of_declaration}
@@ -77,27 +76,27 @@ list_next w (one s l kids) h = refl
 
 -- ---- what the head's parts stand for
 module _ (src : List ℕ) (o : ℕ) (w : Forest) where
-  number_is : (v : Part) → number src (before o w v) ≡ integer_items (part_number src o v)
+  number_is : (v : Option Span) → number src (before o w v) ≡ integer_items (part_number src o v)
   unfolding number_at
-  number_is Absent = refl
-  number_is (Here s) = refl
+  number_is None = refl
+  number_is (Some s) = refl
 
-  optional_is : (v : Part) → optional src (before o w v) ≡ number_words (part_number src o v)
+  optional_is : (v : Option Span) → optional src (before o w v) ≡ number_words (part_number src o v)
   unfolding number_at
-  optional_is Absent = refl
-  optional_is (Here s) = refl
+  optional_is None = refl
+  optional_is (Some s) = refl
 
-name_is : (o : ℕ) (w : Forest) (v : Part) → name (before o w v) ≡ name_words (part_name o v)
-name_is o w Absent = refl
-name_is o w (Here s) = refl
+name_is : (o : ℕ) (w : Forest) (v : Option Span) → name (before o w v) ≡ name_words (part_name o v)
+name_is o w None = refl
+name_is o w (Some s) = refl
 
 -- the function's text, or else the parent
 abbrev other : W.Part → W.Part → List ℕ
 other parent function = pick function.found (unquoted function) (name parent)
 
-other_is : (o : ℕ) (u w : Forest) (p f : Part) → other (before o u p) (before o w f) ≡ name_words (other_name o p f)
-other_is o u w p Absent = name_is o u p
-other_is o u w p (Here s) = refl
+other_is : (o : ℕ) (u w : Forest) (p f : Option Span) → other (before o u p) (before o w f) ≡ name_words (other_name o p f)
+other_is o u w p None = name_is o u p
+other_is o u w p (Some s) = refl
 
 -- ---- a declaration by what the walk takes of its head: the width's item, the words of the names and of the width, the
 -- constraints' items, and the nodes behind them

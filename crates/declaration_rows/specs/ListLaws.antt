@@ -1,6 +1,6 @@
 -- The laws of walking over all declarations, turn by turn.
-use Rattle.std.specs.Prelude.{ℕ, zero, suc, ◌+◌, ◌-◌, ◌≤◌, ◌<◌, ◌≡◌, refl, true, length, take, drop}
-use Rattle.std.proofs.Common.{arith, subst, sym, ◌∙◌, length-drop}
+use Rattle.std.specs.Prelude.{ℕ, zero, suc, ◌+◌, ◌-◌, ◌≤◌, ◌<◌, ◌≡◌, refl, true, length, drop}
+use Rattle.std.proofs.Common.{arith, subst, sym, ◌∙◌}
 use Rattle.std.proofs.Math.Path.{ap}
 use mathlib.Core.List.{List, [], ◌++◌, append-nil, append_assoc}
 use Rattle.meaning.specs.Peg.{run, bytewise, hit, taken}
@@ -8,13 +8,13 @@ use Rattle.meaning.specs.Forest.{Forest, nil, tree, ◌⊕◌, nodes}
 use Rattle.meaning.specs.Pdl.{skip, declaration}
 use Rattle.meaning.specs.Tables.{Item, Lent}
 use Rattle.meaning.specs.Walk.{node, kinds, kind_in, parse_declaration, parse_kind, parse_toplevel}
-use Rattle.grammar.specs.Steps.{rest_is}
-use Rattle.lexis.specs.Skips.{Skips}
+use Rattle.lexis.specs.Skips.{Skips, skips}
 use Rattle.walk.specs.declared.Walk.{Walk}
 use Rattle.walk.specs.declared.Walked.{Walked}
 use Rattle.walk.specs.State.{Wrote, At}
 use Rattle.walk.specs.Steps.{wrote_none, wrote_then, wrote_as, tallied_then, at_on}
 use Rattle.declaration_rows.specs.Declarations.{takes_byte, one_items, Ready, GoesOne}
+use Rattle.declaration_rows.specs.Braces.{past_blanks, past_within}
 use Rattle.declaration_rows.specs.Lists.{rest, last, Reaches, Begun, GoesAll}
 use Rattle.declaration_rows.specs.NextLaws.{no_more, one_more, last_more, at_end_lem, before_end}
 
@@ -51,50 +51,70 @@ pub record Turning (src : List ℕ) (j : ℕ) (n : Walk) (a : Lent → Lent) (i 
   pub wrote : Wrote so_far n m a b
   pub left : parse_toplevel src [] (rest src j) ≡ so_far ++ parse_toplevel src so_far (rest src i)
 
-pub turn_start : {src : List ℕ} {j : ℕ} {n : Walk} (a : Lent → Lent) → Begun src j n → Turning src j n a j n a
-turn_start {n = n} a w = record { came = w.came; reaches = w.reaches; so_far = []; wrote = wrote_none n a; left = refl }
+-- and stands behind the blanks there
+pub record Standing (src : List ℕ) (j : ℕ) (n : Walk) (a : Lent → Lent) (at : ℕ) (m : Walk) (b : Lent → Lent) : Type 0 where
+  pub from : ℕ
+  pub turning : Turning src j n a from m b
+  pub is : at ≡ past_blanks src from
 
--- k blanks follow
-module _ {src : List ℕ} {j : ℕ} {n : Walk} (s : Begun src j n) {a : Lent → Lent} {i : ℕ} {m : Walk} {b : Lent → Lent} (w : Turning src j n a i m b) (k : ℕ)
-    (sk0 : Skips (take (length src - i) (drop i src)) k) where
-  sk : Skips (drop i src) k
-  sk = subst (λ (u : List ℕ). Skips u k) (rest_is i src) sk0
+pub turn_start : {src : List ℕ} {j at : ℕ} {n : Walk} (a : Lent → Lent) → Begun src j n → at ≡ past_blanks src j → Standing src j n a at n a
+turn_start {j = j} {n = n} a w e =
+    record { from = j; turning = record { came = w.came; reaches = w.reaches; so_far = []; wrote = wrote_none n a; left = refl }; is = e }
 
-  pub blank_in : i + k ≤ length src
-  blank_in = omega (arith, w.came.within, sk.fits, length-drop i src)
+module _ {src : List ℕ} {j : ℕ} {n : Walk} (s : Begun src j n) {a : Lent → Lent} {at : ℕ} {m : Walk} {b : Lent → Lent} (v : Standing src j n a at m b) where
+  abbrev w : Turning src j n a v.from m b
+  w = v.turning
 
-  pub turn_done : i + k ≡ length src → GoesAll src j n m a b
+  sk : Skips (drop v.from src) (taken (run (bytewise skip) (drop v.from src)))
+  sk = skips (drop v.from src)
+
+  pub stand_in : at ≤ length src
+  stand_in = omega (arith, v.is, past_within src v.from w.came.within)
+
+  pub turn_done : length src ≤ at → GoesAll src j n m a b
   unfolding parse_toplevel
-  turn_done e =
-      let z : rest src i ≡ nil = no_more src i k sk (at_end_lem src i k sk w.came.within e) in
-      record { wrote = wrote_as (sym (w.left ∙ ap (λ (v : Forest). w.so_far ++ parse_toplevel src w.so_far v) z ∙ append-nil _)) w.wrote }
+  turn_done h =
+      let e : past_blanks src v.from ≡ length src = omega (arith, stand_in, v.is, h) in
+      let z : rest src v.from ≡ nil = no_more src v.from _ sk (at_end_lem src v.from _ sk w.came.within e) in
+      record { wrote = wrote_as (sym (w.left ∙ ap (λ (u : Forest). w.so_far ++ parse_toplevel src w.so_far u) z ∙ append-nil _)) w.wrote }
 
-  module _ (ne : i + k ≡ length src → ⊥) where
-    hits : hit (run (bytewise declaration) (drop (i + k) src)) ≡ true
-    hits = before_end src i k sk w.reaches ne
+  module _ (h : at < length src) where
+    hits : hit (run (bytewise declaration) (drop (past_blanks src v.from) src)) ≡ true
+    hits = before_end src v.from _ sk w.reaches (λ (e : past_blanks src v.from ≡ length src). omega (arith, v.is, h, e))
 
-    pub turn_ready : Ready src (i + k) m
-    turn_ready = record { came = at_on (omega arith) blank_in w.came; hits = hits }
+    pub turn_ready : Ready src at m
+    turn_ready =
+        record {
+          came = at_on (omega (arith, v.is)) stand_in w.came;
+          hits = ap (λ (i : ℕ). hit (run (bytewise declaration) (drop i src))) v.is ∙ hits;
+        }
 
-    module _ {r : Walked} {c : Lent → Lent} (o : GoesOne src (i + k) m r b c) where
-      pub turn_less : length src - r.end < length src - i
-      turn_less = omega (arith, o.ends, takes_byte (drop (i + k) src) hits, o.came.within)
+    module _ {r : Walked} {c : Lent → Lent} (g : GoesOne src at m r b c) {at' : ℕ} (e : at' ≡ past_blanks src r.end) where
+      pub turn_less : length src - at' < length src - at
+      turn_less = omega (arith, h, e, g.ends, takes_byte (drop at src) turn_ready.hits)
 
-      pub turn_more : Turning src j n a r.end r.walk c
+      o : GoesOne src (past_blanks src v.from) m r b c
+      o = subst (λ (i : ℕ). GoesOne src i m r b c) v.is g
+
+      pub turn_more : Standing src j n a at' r.walk c
       turn_more =
-          let ys : List Item = one_items src (i + k) w.so_far in
+          let i : ℕ = past_blanks src v.from in
+          let ys : List Item = one_items src i w.so_far in
           record {
-            came = o.came;
-            reaches =
-                subst (λ (l : ℕ). l + taken (run (bytewise skip) (drop l src)) ≡ length src) (last_more src i k sk hits ∙ ap (last src) (sym o.ends))
-                w.reaches;
-            so_far = w.so_far ++ ys;
-            wrote = wrote_then w.wrote (o.wrote w.so_far (tallied_then s.nothing w.wrote));
-            left =
-                w.left
-                ∙ ap (λ (v : Forest). w.so_far ++ parse_toplevel src w.so_far v)
-                (one_more src i k sk hits ∙ ap (λ (l : ℕ). nodes (bytewise declaration) (i + k) (drop (i + k) src) ⊕ rest src l) (sym o.ends))
-                ∙ ap (λ (zs : List Item). w.so_far ++ zs)
-                (toplevel-⊕ src w.so_far (nodes (bytewise declaration) (i + k) (drop (i + k) src)) (rest src r.end))
-                ∙ sym (append_assoc w.so_far ys _);
+            from = r.end;
+            turning = record {
+              came = o.came;
+              reaches =
+                  subst (λ (l : ℕ). l + taken (run (bytewise skip) (drop l src)) ≡ length src)
+                  (last_more src v.from _ sk hits ∙ ap (last src) (sym o.ends)) w.reaches;
+              so_far = w.so_far ++ ys;
+              wrote = wrote_then w.wrote (o.wrote w.so_far (tallied_then s.nothing w.wrote));
+              left =
+                  w.left
+                  ∙ ap (λ (u : Forest). w.so_far ++ parse_toplevel src w.so_far u)
+                  (one_more src v.from _ sk hits ∙ ap (λ (l : ℕ). nodes (bytewise declaration) i (drop i src) ⊕ rest src l) (sym o.ends))
+                  ∙ ap (λ (zs : List Item). w.so_far ++ zs) (toplevel-⊕ src w.so_far (nodes (bytewise declaration) i (drop i src)) (rest src r.end))
+                  ∙ sym (append_assoc w.so_far ys _);
+            };
+            is = e;
           }

@@ -3,6 +3,7 @@
 use Rattle.std.specs.Prelude.{ℕ, ◌≡◌, List, length}
 use Rattle.std.proofs.Common.{sym, ◌∙◌}
 use Rattle.meaning.specs.Tables.{Lent}
+use Rattle.spans.specs.declared.Matched.{Matched}
 use Rattle.spans.specs.declared.Header.{Header}
 use Rattle.walk.specs.declared.Door.TheVariants.{Write}
 use Rattle.walk.specs.declared.Walk.{Walk}
@@ -19,7 +20,7 @@ pub record AlikeHead (n : Walk) (r s : Headed) (b c : Lent → Lent) : Type 0 wh
   pub width : r.width ≡ s.width
 
 module _ {src : List ℕ} {n : Walk} {a b c : Lent → Lent} (e : length n.counts ≡ 5) where
-  pub head_settled : {at : ℕ} {h : Header} {r s : Headed} → GoesHead src at h n r a b → GoesHead src at h n s a c → AlikeHead n r s b c
+  pub head_settled : {at : ℕ} {h : Matched Header} {r s : Headed} → GoesHead src at h n r a b → GoesHead src at h n s a c → AlikeHead n r s b c
   head_settled x y =
       record {
         walk = wrote_settled e x.wrote y.wrote;

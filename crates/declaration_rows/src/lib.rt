@@ -4,83 +4,63 @@
 ghost use Rattle.std.specs.Prelude.{◌≡◌, ◌≤◌, length};
 ghost use Rattle.meaning.specs.Tables.{Table};
 ghost use Rattle.walk.specs.State.{lend, At};
-ghost use Rattle.declaration_rows.specs.Keywords.{KindAt};
-ghost use Rattle.declaration_rows.specs.Ways.{three, four};
-ghost use Rattle.declaration_rows.specs.Members.{list_end, closing, members_of, Tagged, GoesTags, GoesFields, Membered, GoesMembers};
+ghost use Rattle.walk.specs.Lending.{declared_in, Kept};
+ghost use Rattle.declaration_rows.specs.Braces.{past_blanks};
+ghost use Rattle.declaration_rows.specs.Members.{past_comma, past_brace, members_of, Tagged, GoesTags, GoesFields, Membered, GoesMembers};
 ghost use Rattle.declaration_rows.specs.Declarations.{Ready, ReadyKind, Opened, GoesOne, GoesParts, Rowed, GoesRow};
 ghost use Rattle.declaration_rows.specs.Lists.{Begun, GoesAll};
 
 use crate::heads::{Headed, head_of, put_head};
+use crate::kinds::{Kind, kind_at};
 use declarations::tests::test_declaration;
 use lexis::blanks::{blanks, next_literal, then_last_comma};
-use lexis::texts::literal;
 use meaning::Match;
-use spans::Header;
+use spans::{Header, Matched};
+use walk::tables::Tables;
 use walk::{Walk, Walked};
 
 mod heads;
+mod kinds;
 
-// The kind of a declaration at the front, by its word: 1 to 6, and 0 for a test.
-fn kind_at(s: &[u8]) -> u64
-    ensures { KindAt s.now result }
+// The first offset from i on that is behind blanks.
+fn past_blanks(s: &[u8], i: usize) -> usize
+    requires { i ≤ length s.now }
+    ensures { result ≡ past_blanks s.now i }
 {
-    let a = grammar::took(literal(s, b"enum"));
-    if a {
-        return 1;
-    }
-    let b = grammar::took(literal(s, b"packet"));
-    if b {
-        return 2;
-    }
-    let c = grammar::took(literal(s, b"struct"));
-    if c {
-        return 3;
-    }
-    let d = grammar::took(literal(s, b"group"));
-    if d {
-        return 4;
-    }
-    let e = grammar::took(literal(s, b"checksum"));
-    if e {
-        return 5;
-    }
-    let f = grammar::took(literal(s, b"custom_field"));
-    if f {
-        return 6;
-    }
-    0
+    i + blanks(&s[i..])
 }
 
-// Where a list ends whose last item ends at j: behind a last comma, if there is one.
-fn list_end(s: &[u8], j: usize) -> usize
-    requires { j ≤ length s.now }
-    ensures { result ≡ list_end s.now j }
+// The walk over a list goes on from its last item: behind a last comma, if there is one.
+fn past_comma(s: &[u8], w: Walked) -> Walked
+    requires { w.end ≤ length s.now }
+    ensures { result ≡ past_comma s.now w }
 {
-    let m = then_last_comma(&s[j..], Match::Took(0, 0));
-    j + grammar::taken(m)
+    let comma = then_last_comma(&s[w.end..], Match::Took(0, 0));
+    Walked {
+        end: w.end + comma.taken(),
+        ..w
+    }
 }
 
-// Where a declaration ends whose members end at j: behind its closing brace.
-fn closed(s: &[u8], j: usize) -> usize
-    requires { j ≤ length s.now }
-    ensures { result ≡ closing s.now j }
+// The walk over the members of a declaration goes on from their end: behind the closing brace.
+fn past_brace(s: &[u8], w: Walked) -> Walked
+    requires { w.end ≤ length s.now }
+    ensures { result ≡ past_brace s.now w }
 {
-    let brace = next_literal(&s[j..], Match::Took(0, 0), b"}");
-    j + grammar::taken(brace)
+    let brace = next_literal(&s[w.end..], Match::Took(0, 0), b"}");
+    Walked {
+        end: w.end + brace.taken(),
+        ..w
+    }
 }
 
-// The rows of an enum's tags, which stand at i, and where their list ends.
+// The rows of an enum's tags, which stand at i, and where their list ends. Where one or two tables alone are lent, the others stay.
 fn put_tags(s: &[u8], i: usize, n: Walk, tags: &mut [u64]) -> Walked
     requires { Tagged s.now i n }
     ensures { GoesTags s.now i n result (lend Table.tags tags.old) (lend Table.tags tags.new) }
 {
     let first = tags::enum_tag(&s[i..]);
-    let w = tag_rows::put_tags(s, i, first, n, tags);
-    let walk = w.walk;
-    Walked {
-        walk,
-        end: list_end(s, w.end),
-    }
+    past_comma(s, tag_rows::put_tags(s, i, first, n, tags))
 }
 
 // The rows of the fields that stand at i, if there are some, and where their list ends.
@@ -91,198 +71,141 @@ fn put_fields(s: &[u8], i: usize, n: Walk, fields: &mut [u64], constraints: &mut
         (λ l. lend Table.fields fields.new (lend Table.constraints constraints.new l)) }
 {
     let first = fields::field(&s[i..]);
-    let end = first.at;
-    let there = grammar::took(end);
-    if there {} else {
+    if !first.at.is_hit() {
         return Walked { walk: n, end: i };
     }
-    let w = field_rows::put_fields(s, i, first, n, fields, constraints);
-    let walk = w.walk;
-    Walked {
-        walk,
-        end: list_end(s, w.end),
-    }
+    past_comma(
+        s,
+        field_rows::put_fields(s, i, first, n, fields, constraints),
+    )
 }
 
 // The rows of a declaration's members, whose head ends at e: the tags of an enum, the fields of any other kind that has braces;
 // and where the declaration ends.
-fn put_members(
-    s: &[u8],
-    e: usize,
-    kind: u64,
-    n: Walk,
-    fields: &mut [u64],
-    tags: &mut [u64],
-    constraints: &mut [u64],
-) -> Walked
+fn put_members(s: &[u8], e: usize, kind: Kind, n: Walk, tables: &mut Tables) -> Walked
     requires { Membered s.now e kind n }
-    ensures { GoesMembers s.now e kind n result (three fields.old tags.old constraints.old)
-        (three fields.new tags.new constraints.new) }
+    ensures goes { GoesMembers s.now e kind n result (declared_in tables.old) (declared_in tables.new) }
+    ensures kept { Kept tables.old tables.new }
 {
-    if 4 < kind {
-        return Walked { walk: n, end: e };
-    }
-    let i = e + blanks(&s[e..]);
-    if kind == 1 {
-        let w = put_tags(s, i, n, tags);
-        let walk = w.walk;
-        return Walked {
-            walk,
-            end: closed(s, w.end),
-        };
-    }
-    let w = put_fields(s, i, n, fields, constraints);
-    let walk = w.walk;
-    Walked {
-        walk,
-        end: closed(s, w.end),
+    match kind {
+        Kind::Enum => past_brace(s, put_tags(s, past_blanks(s, e), n, tables.tags)),
+        Kind::Packet | Kind::Struct | Kind::Group => {
+            let i = past_blanks(s, e);
+            past_brace(s, put_fields(s, i, n, tables.fields, tables.constraints))
+        }
+        Kind::Checksum | Kind::CustomField => Walked { walk: n, end: e },
     }
 }
 
-// What stands in a declaration: its head, the walk behind its members, and where it ends.
+// What stands in a declaration: its head, and the walk over its members up to where it ends.
 #[derive(Clone, Copy)]
 struct Parts {
     head: Headed,
-    walk: Walk,
-    end: usize,
+    members: Walked,
 }
 
 // The rows of the parts of a declaration whose head is h.
 fn put_parts(
     s: &[u8],
     at: usize,
-    kind: u64,
-    h: Header,
+    kind: Kind,
+    h: Matched<Header>,
     n: Walk,
-    fields: &mut [u64],
-    tags: &mut [u64],
-    constraints: &mut [u64],
+    tables: &mut Tables,
 ) -> Parts
     requires { Opened s.now at kind h n }
-    ensures { GoesParts s.now at kind h n result (three fields.old tags.old constraints.old)
-        (three fields.new tags.new constraints.new) }
+    ensures goes { GoesParts s.now at kind h n result (declared_in tables.old) (declared_in tables.new) }
+    ensures kept { Kept tables.old tables.new }
 {
-    let head = put_head(s, at, h, n, constraints);
-    let behind = head.walk;
-    let close = h.at;
-    let e = at + grammar::taken(close);
-    let w = put_members(s, e, kind, behind, fields, tags, constraints);
-    let walk = w.walk;
+    let head = put_head(s, at, h, n, tables.constraints);
     Parts {
         head,
-        walk,
-        end: w.end,
+        members: put_members(s, at + h.at.taken(), kind, head.walk, tables),
     }
 }
 
 // How many members of this kind's declarations there are by now: tags of enums, fields of all others.
-fn members(kind: u64, n: Walk) -> usize
+fn members(kind: Kind, n: Walk) -> usize
     ensures { result ≡ members_of kind n }
 {
-    if kind == 1 {
-        return walk::counted(n, walk::TAGS);
+    match kind {
+        Kind::Enum => n.counted(walk::Table::Tags),
+        _ => n.counted(walk::Table::Fields),
     }
-    walk::counted(n, walk::FIELDS)
 }
 
 // A declaration's row, behind those of its parts x; n is the walk before it.
-fn put_row(s: &[u8], kind: u64, n: Walk, x: Parts, declarations: &mut [u64]) -> Walk
+#[tactic(auto, using(crate::proofs::RowLaws::tag_is, crate::proofs::RowLaws::row_asks, crate::proofs::RowLaws::row_done))]
+fn put_row(s: &[u8], kind: Kind, n: Walk, x: Parts, declarations: &mut [u64]) -> Walk
     requires { Rowed s.now kind n x }
     ensures { GoesRow s.now kind n x result (lend Table.declarations declarations.old)
         (lend Table.declarations declarations.new) }
 {
     let head = x.head;
-    let behind = head.walk;
-    let p = head.start;
-    let id = head.id;
-    let other = head.other;
-    let width = head.width;
-    let inner = x.walk;
-    let last = walk::to(s, inner, x.end);
-    let q = last.here;
-    let count = members(kind, inner) - members(kind, behind);
+    let last = x.members.walk.to(s, x.members.end);
+    let count = members(kind, x.members.walk) - members(kind, head.walk);
     let first = walk::rows::first_of(members(kind, n), count);
-    let before = walk::counted(n, walk::CONSTRAINTS);
-    let listed = walk::counted(behind, walk::CONSTRAINTS) - before;
+    let before = n.counted(walk::Table::Constraints);
+    let listed = head.walk.counted(walk::Table::Constraints) - before;
     let list = walk::rows::first_of(before, listed);
-    let row = walk::rows::declaration_row(kind, p, q, id, other, width, first, count, list, listed);
-    walk::put(last, walk::DECLARATIONS, &row, declarations)
+    let row = walk::rows::declaration_row(
+        kind as u64,
+        head.start,
+        last.here,
+        head.id,
+        head.other,
+        head.width,
+        first,
+        count,
+        list,
+        listed,
+    );
+    last.put(walk::Table::Declarations, &row, declarations)
 }
 
 // One declaration of a kind that has a row: the rows of its parts come to the door, and then its own.
-fn put_kind(
-    s: &[u8],
-    at: usize,
-    kind: u64,
-    n: Walk,
-    declarations: &mut [u64],
-    fields: &mut [u64],
-    tags: &mut [u64],
-    constraints: &mut [u64],
-) -> Walked
+fn put_kind(s: &[u8], at: usize, kind: Kind, n: Walk, tables: &mut Tables) -> Walked
     requires { ReadyKind s.now at kind n }
-    ensures { GoesOne s.now at n result (four declarations.old fields.old tags.old constraints.old)
-        (four declarations.new fields.new tags.new constraints.new) }
+    ensures goes { GoesOne s.now at n result (declared_in tables.old) (declared_in tables.new) }
+    ensures kept { Kept tables.old tables.new }
 {
     let h = head_of(&s[at..], kind);
-    let x = put_parts(s, at, kind, h, n, fields, tags, constraints);
-    let end = x.end;
+    let x = put_parts(s, at, kind, h, n, tables);
     Walked {
-        walk: put_row(s, kind, n, x, declarations),
-        end,
+        walk: put_row(s, kind, n, x, tables.declarations),
+        end: x.members.end,
     }
 }
 
 // One declaration, of the kind that its word tells. A test has no row.
 // Rust: parse_toplevel's match on the rule of a node.
-fn put_one(
-    s: &[u8],
-    at: usize,
-    n: Walk,
-    declarations: &mut [u64],
-    fields: &mut [u64],
-    tags: &mut [u64],
-    constraints: &mut [u64],
-) -> Walked
+fn put_one(s: &[u8], at: usize, n: Walk, tables: &mut Tables) -> Walked
     requires { Ready s.now at n }
-    ensures { GoesOne s.now at n result (four declarations.old fields.old tags.old constraints.old)
-        (four declarations.new fields.new tags.new constraints.new) }
+    ensures goes { GoesOne s.now at n result (declared_in tables.old) (declared_in tables.new) }
+    ensures kept { Kept tables.old tables.new }
 {
-    let kind = kind_at(&s[at..]);
-    if kind == 0 {
-        let whole = test_declaration(&s[at..]);
-        return Walked {
+    match kind_at(&s[at..]) {
+        Some(kind) => put_kind(s, at, kind, n, tables),
+        None => Walked {
             walk: n,
-            end: at + grammar::taken(whole),
-        };
+            end: at + test_declaration(&s[at..]).taken(),
+        },
     }
-    put_kind(s, at, kind, n, declarations, fields, tags, constraints)
 }
 
-// All declarations behind j, up to the end of the source.
+// All declarations behind j, up to the end of the source. The loop is no `for`: each starts behind the one before it.
 // Rust: parse_toplevel.
-pub fn put_declarations(
-    s: &[u8],
-    j: usize,
-    n: Walk,
-    declarations: &mut [u64],
-    fields: &mut [u64],
-    tags: &mut [u64],
-    constraints: &mut [u64],
-) -> Walk
+pub fn put_declarations(s: &[u8], j: usize, n: Walk, tables: &mut Tables) -> Walk
     requires { Begun s.now j n }
-    ensures { GoesAll s.now j n result (four declarations.old fields.old tags.old constraints.old)
-        (four declarations.new fields.new tags.new constraints.new) }
+    ensures goes { GoesAll s.now j n result (declared_in tables.old) (declared_in tables.new) }
+    ensures kept { Kept tables.old tables.new }
 {
-    let mut i = j;
+    let mut at = past_blanks(s, j);
     let mut m = n;
-    loop {
-        let at = i + blanks(&s[i..]);
-        if at == s.len() {
-            return m;
-        }
-        let x = put_one(s, at, m, declarations, fields, tags, constraints);
-        m = x.walk;
-        i = x.end;
+    while at < s.len() {
+        let one = put_one(s, at, m, tables);
+        at = past_blanks(s, one.end);
+        m = one.walk;
     }
+    m
 }

@@ -1,4 +1,5 @@
 -- What the functions over fields ask of their callees, and what they come to.
+use Rattle.std.specs.Prelude.{Option, None, Some}
 use Prim.Native.Nat.{ℕ, ◌+◌, ◌-◌, ◌^◌, ◌≤◌, ◌<◌}
 use native.Mathlib.Omega.{arith}
 use mathlib.Core.Path.{◌≡◌, refl, ap, ap₂, subst, sym, ◌∙◌}
@@ -15,47 +16,48 @@ use Rattle.meaning.specs.Convert.{convert, reason_of}
 use Rattle.meaning.specs.Tables.{Table, size, Item, int, row, rows_of, count, first_of, Lent}
 use Rattle.meaning.specs.Walk.{node, value_part, text_of, each, constraint_number, constraint_row, parse_constraint_list, parse_field_list}
 use Rattle.grammar.specs.Limits.{Limits, wider}
+use Rattle.spans.specs.declared.Span.{Span}
 use Rattle.spans.specs.declared.Constraint.{Constraint}
-use Rattle.spans.specs.declared.Condition.{Condition}
-use Rattle.spans.specs.declared.Condition.TheVariants.{Always, If}
-use Rattle.spans.specs.declared.FieldMatch.{FieldMatch}
-use Rattle.spans.specs.declared.Part.{Part as SpanPart}
+use Rattle.spans.specs.declared.Matched.{Matched}
+use Rattle.spans.specs.declared.Field.{Field}
 use Rattle.spans.specs.Drawn.{draw_constraint, draw_condition, draw_desc, draw_field}
 use Rattle.spans.specs.Answers.{MatchedPart, desc_list}
 use Rattle.walk.specs.declared.Described.{Described}
 use Rattle.walk.specs.declared.Number.{Number}
+use Rattle.walk.specs.Kinds.{field_number}
 use Rattle.walk.specs.declared.Walk.{Walk}
 use Rattle.walk.specs.declared.Door.TheVariants.{Write}
-use Rattle.walk.specs.State.{slot, counted, lend, Wrote, At, Goes, same, Came, Knows, Put}
-use Rattle.walk.specs.Steps.{Sound, count_append, no_rows, wrote_none, wrote_then, wrote_in, wrote_as, at_on, goes_then, integer_goes, same_counts}
+use Rattle.walk.specs.State.{slot, counted, lend, after_number, Wrote, At, Goes, same, Came, Knows, Put}
+use Rattle.walk.specs.Steps.{count_append, no_rows, wrote_none, wrote_then, wrote_in, wrote_as, at_on, goes_then, integer_goes, same_counts}
 use Rattle.walk.specs.Doors.{put_asks, put_wrote, put_goes, stood}
 use Rattle.walk.specs.Sounds.{field_sized}
 use Rattle.walk.specs.Terms.{integer_items, words_of_field}
 use Rattle.walk.specs.Insides.{constraint_inside}
-use Rattle.walk.specs.Lists.{GoesOne, found_some, found_in}
+use Rattle.walk.specs.Lists.{Ready, GoesOne, found_some, found_in}
 use Rattle.constraint_rows.specs.Constraints.{Placed, GoesRow}
 use Rattle.constraint_rows.specs.OptionalLists.{part_nodes, Begun, GoesPart}
-use Rattle.field_rows.specs.DescTerms.{described_as, InsideDesc, Numbers, numbered, desc_items}
+use Rattle.field_rows.specs.DescTerms.{described_as, InsideDesc, desc_items}
 use Rattle.field_rows.specs.DescLimits.{desc_inside, group_limits}
 use Rattle.field_rows.specs.Halves.{Halves, desc_hit, halves}
-use Rattle.field_rows.specs.Items.{cond_number, cond_rows, cond_word, InsideCondition, condition_sound, field_says, field_group, field_count, field_row, field_items, field_items_lem}
-use Rattle.field_rows.specs.Fields.{field_form, own_items, by, noted_desc, Ready, AtCondition, PastCondition, Conditioned, GoesCondition}
+use Rattle.field_rows.specs.Items.{cond_number, cond_rows, cond_word, InsideCondition, field_says, field_group, field_count, field_row, field_items, field_items_lem}
+use Rattle.field_rows.specs.Fields.{field_form, own_items, noted_desc, AtCondition, PastCondition, Conditioned, GoesCondition}
 
 -- ---- a condition, by its case
-pub condition_none : {src : List ℕ} {at : ℕ} {cond : Condition} {n : Walk} {a : Lent → Lent} → cond ≡ Always → GoesCondition src at cond n n a a
+pub condition_none : {src : List ℕ} {at : ℕ} {cond : Option Constraint} {n : Walk} {a : Lent → Lent} → cond ≡ None → GoesCondition src at cond n n a a
 condition_none {src} {at} {cond} {n} {a} e =
-    subst (λ (k : Condition). GoesCondition src at k n n a a) (sym e) (record { wrote = wrote_none n a; came = refl })
+    subst (λ (k : Option Constraint). GoesCondition src at k n n a a) (sym e) (record { wrote = wrote_none n a; came = refl })
 
-pub condition_ready : {src : List ℕ} {at : ℕ} {cond : Condition} {c : Constraint} {v : Number} {n : Walk} → Conditioned src at cond v n → cond ≡ If c
+pub condition_ready : {src : List ℕ} {at : ℕ} {cond : Option Constraint} {c : Constraint} {v : Option Number} {n : Walk}
+    → Conditioned src at cond v n → cond ≡ Some c
     → Placed src at c v n
 condition_ready {src} {at} {cond} {c} {v} {n} w e =
-    let k = subst (λ (x : Condition). Conditioned src at x v n) e w in
+    let k = subst (λ (x : Option Constraint). Conditioned src at x v n) e w in
     record { within = k.within; came = k.stands.0; number = k.number; inside = k.stands.1.0; spare = k.stands.1.1 }
 
-pub condition_done : {src : List ℕ} {at : ℕ} {cond : Condition} {c : Constraint} {n r : Walk} {a b : Lent → Lent} → cond ≡ If c
+pub condition_done : {src : List ℕ} {at : ℕ} {cond : Option Constraint} {c : Constraint} {n r : Walk} {a b : Lent → Lent} → cond ≡ Some c
     → GoesRow src at c n r a b → GoesCondition src at cond n r a b
 condition_done {src} {at} {cond} {c} {n} {r} {a} {b} e g =
-    subst (λ (k : Condition). GoesCondition src at k n r a b) (sym e) (record { wrote = g.wrote; came = g.came })
+    subst (λ (k : Option Constraint). GoesCondition src at k n r a b) (sym e) (record { wrote = g.wrote; came = g.came })
 
 -- ---- constraints are no fields
 no_fields : (src : List ℕ) (w : Forest) → count Table.fields (parse_constraint_list src w) ≡ 0
@@ -73,72 +75,72 @@ no_fields src (tree q s l k more) =
     one true = ints (value_part k).found (value_part k).start (reason_of (convert (text_of src (value_part k)))) (constraint_row src (node s l k more))
     one false = refl
 
-no_condition_fields : (src : List ℕ) (o : ℕ) (c : Condition) → count Table.fields (cond_rows src o c) ≡ 0
+no_condition_fields : (src : List ℕ) (o : ℕ) (c : Option Constraint) → count Table.fields (cond_rows src o c) ≡ 0
 unfolding rows_of
-no_condition_fields src o Always = refl
-no_condition_fields src o (If c) = refl
+no_condition_fields src o None = refl
+no_condition_fields src o (Some c) = refl
 
 -- numbers are no rows
 no_desc : (t : Table) (d : Described) → count t (desc_items d) ≡ 0
-no_desc t d = go (eqb d.kind 8)
+no_desc t d = go (eqb (field_number d.kind) 8)
   where
     go : (b : Bool) → count t (pick b (integer_items d.nb ++ integer_items d.na) (integer_items d.na ++ integer_items d.nb)) ≡ 0
     go true = count_append t (integer_items d.nb) (integer_items d.na) ∙ ap₂ ◌+◌ (no_rows t d.nb) (no_rows t d.na)
     go false = count_append t (integer_items d.na) (integer_items d.nb) ∙ ap₂ ◌+◌ (no_rows t d.na) (no_rows t d.nb)
 
 -- ---- the numbers of a description, in the walk's order
-desc_goes : {d : Described} {src : List ℕ} {k : ℕ} {n m : Walk} (a : Lent → Lent) → Numbers d → m ≡ noted_desc d n → At src k n
+desc_goes : (d : Described) {src : List ℕ} {k : ℕ} {n m : Walk} (a : Lent → Lent) → m ≡ noted_desc d n → At src k n
     → Goes (desc_items d) src k n m a a
-desc_goes {d} {src} {k} {n} {m} a z e h = subst (λ (x : Walk). Goes (desc_items d) src k n x a a) (sym e) (go (eqb d.kind 8))
+desc_goes d {src} {k} {n} {m} a e h = subst (λ (x : Walk). Goes (desc_items d) src k n x a a) (sym e) (go (eqb (field_number d.kind) 8))
   where
     go : (b : Bool) → Goes (pick b (integer_items d.nb ++ integer_items d.na) (integer_items d.na ++ integer_items d.nb)) src k n
-        (pick b (by d.na (by d.nb n)) (by d.nb (by d.na n))) a a
-    go true = let x = integer_goes z.nb a refl h in goes_then x (integer_goes z.na a refl x.at)
-    go false = let x = integer_goes z.na a refl h in goes_then x (integer_goes z.nb a refl x.at)
+        (pick b (after_number d.na (after_number d.nb n)) (after_number d.nb (after_number d.na n))) a a
+    go true = let x = integer_goes d.nb a refl h in goes_then x (integer_goes d.na a refl x.at)
+    go false = let x = integer_goes d.na a refl h in goes_then x (integer_goes d.nb a refl x.at)
 
 -- the list that the code has is the description's
-pub group_as : {src : List ℕ} {at : ℕ} {x y : SpanPart} {n r : Walk} {a b : Lent → Lent} → x ≡ y → GoesPart src at x n r a b → GoesPart src at y n r a b
-group_as {src} {at} {n = n} {r = r} {a = a} {b = b} e g = subst (λ (z : SpanPart). GoesPart src at z n r a b) e g
+pub group_as : {src : List ℕ} {at : ℕ} {x y : Option Span} {n r : Walk} {a b : Lent → Lent} → x ≡ y → GoesPart src at x n r a b → GoesPart src at y n r a b
+group_as {src} {at} {n = n} {r = r} {a = a} {b = b} e g = subst (λ (z : Option Span). GoesPart src at z n r a b) e g
 
 -- ---- one field
-module _ {src : List ℕ} {at : ℕ} {f : FieldMatch} {n : Walk} (w : Ready src at f n) where
+module _ {src : List ℕ} {at : ℕ} {f : Matched Field} {n : Walk} (w : Ready field_form src at f n) where
   abbrev end : ℕ
   end = at + taken f.at
 
-  two : Halves at (taken f.at) (draw_desc at (drop at src) (taken f.desc.at) f.desc.desc) (draw_condition at f.cond)
+  two : Halves at (taken f.at) (draw_desc at (drop at src) (taken f.value.desc.at) f.value.desc.value) (draw_condition at f.value.condition)
   two = halves w.found.answered w.found.hits at
 
   end_in : end ≤ length src
   end_in = found_in w.found
 
   -- where its parts stand
-  pub desc_ready : (at ≤ length src) × InsideDesc (length src - at) f.desc.desc
+  pub desc_ready : (at ≤ length src) × InsideDesc (length src - at) f.value.desc.value
   desc_ready = (
     w.found.within,
-    desc_inside at (length src - at) (drop at src) (taken f.desc.at) f.desc.desc
-        (wider at (at + two.k) at (at + (length src - at)) (draw_desc at (drop at src) (taken f.desc.at) f.desc.desc) (omega arith)
+    desc_inside at (length src - at) (drop at src) (taken f.value.desc.at) f.value.desc.value
+        (wider at (at + two.k) at (at + (length src - at)) (draw_desc at (drop at src) (taken f.value.desc.at) f.value.desc.value) (omega arith)
         (omega (arith, two.fits, end_in, w.found.within)) two.first),
   )
 
-  inside_if : (c : Condition) → Limits (at + two.k) end (draw_condition at c) → InsideCondition (length src - at) c
-  inside_if Always h = tt
-  inside_if (If c) h =
+  inside_if : (c : Option Constraint) → Limits (at + two.k) end (draw_condition at c) → InsideCondition (length src - at) c
+  inside_if None h = tt
+  inside_if (Some c) h =
       constraint_inside at (taken f.at) (length src - at) c (omega (arith, end_in))
       (wider (at + two.k) end at end (draw_constraint at c) (omega arith) (omega arith) h)
 
-  pub condition_inside : (at ≤ length src) × InsideCondition (length src - at) f.cond
-  condition_inside = (w.found.within, inside_if f.cond two.second)
+  pub condition_inside : (at ≤ length src) × InsideCondition (length src - at) f.value.condition
+  condition_inside = (w.found.within, inside_if f.value.condition two.second)
 
-  module _ {d : Described} {v : Number} {m k : Walk} (ed : d ≡ described_as src at f.desc.desc) (ev : v ≡ cond_number src at f.cond)
-      (em : m ≡ by v n) (ek : k ≡ noted_desc d m) where
+  module _ {d : Described} {v : Option Number} {m k : Walk} (ed : d ≡ described_as src at f.value.desc.value) (ev : v ≡ cond_number src at f.value.condition)
+      (em : m ≡ after_number v n) (ek : k ≡ noted_desc d m) where
     -- its numbers
     abbrev ints : List Item
     ints = integer_items v ++ desc_items d
 
     noting : (a : Lent → Lent) → Goes ints src at n k a a
     noting a =
-        let x = integer_goes (subst Sound (sym ev) (condition_sound src at f.cond)) a em w.came in
-        goes_then x (desc_goes a (subst Numbers (sym ed) (numbered src at f.desc.desc)) ek x.at)
+        let x = integer_goes v a em w.came in
+        goes_then x (desc_goes d a ek x.at)
 
     pub start_ready : At src at k
     start_ready = (noting same).at
@@ -148,43 +150,43 @@ module _ {src : List ℕ} {at : ℕ} {f : FieldMatch} {n : Walk} (w : Ready src 
       starting b = wrote_as (append-nil ints) (wrote_in b (wrote_then (noting same).wrote ca.goes.wrote))
 
       -- its group's constraints
-      pub group_ready : {g : SpanPart} → g ≡ desc_list f.desc.desc → Begun src at g a
+      pub group_ready : {g : Option Span} → g ≡ desc_list f.value.desc.value → Begun src at g a
       group_ready e =
           record {
             came = ca.goes.at;
-            list = subst (λ (x : SpanPart). MatchedPart constraint_list (drop at src) x) (sym e)
+            list = subst (λ (x : Option Span). MatchedPart constraint_list (drop at src) x) (sym e)
                 (w.found.answered.described.sound (desc_hit w.found.answered w.found.hits));
           }
 
-      module _ {g : Walk} {c c' : List ℕ} (wg : GoesPart src at (desc_list f.desc.desc) a g (lend Table.constraints c) (lend Table.constraints c')) where
+      module _ {g : Walk} {c c' : List ℕ} (wg : GoesPart src at (desc_list f.value.desc.value) a g (lend Table.constraints c) (lend Table.constraints c')) where
         group_at : At src (at + two.k) g
         group_at =
             wg.came at (at + two.k) (omega arith) (omega (arith, two.fits, end_in))
-            (group_limits at (at + two.k) at (drop at src) (taken f.desc.at) f.desc.desc two.first)
+            (group_limits at (at + two.k) at (drop at src) (taken f.value.desc.at) f.value.desc.value two.first)
 
         pub grows : counted Table.constraints a ≤ counted Table.constraints g
         grows = omega (arith, wg.wrote.counts Table.constraints)
 
-        stands_if : (x : Condition) → f.cond ≡ x → Limits (at + two.k) end (draw_condition at x) → AtCondition src at x g
-        stands_if Always e h = tt
-        stands_if (If x) e h =
+        stands_if : (x : Option Constraint) → f.value.condition ≡ x → Limits (at + two.k) end (draw_condition at x) → AtCondition src at x g
+        stands_if None e h = tt
+        stands_if (Some x) e h =
             let b : at + two.k ≤ at + x.span.start = h.0 in
             let i : at + x.span.start + x.span.len ≤ end = h.1.0 in (
               at_on b (omega (arith, i, end_in)) group_at,
-              (inside_if (If x) h, omega (arith, group_at.few Table.constraints, two.some _ _ _ _ _ (ap (draw_condition at) e), end_in)),
+              (inside_if (Some x) h, omega (arith, group_at.few Table.constraints, two.some _ _ _ _ _ (ap (draw_condition at) e), end_in)),
             )
 
-        pub condition_stands : Conditioned src at f.cond v g
-        condition_stands = record { within = w.found.within; number = ev; stands = stands_if f.cond refl two.second }
+        pub condition_stands : Conditioned src at f.value.condition v g
+        condition_stands = record { within = w.found.within; number = ev; stands = stands_if f.value.condition refl two.second }
 
-        module _ {h : Walk} {c'' : List ℕ} (wc : GoesCondition src at f.cond g h (lend Table.constraints c') (lend Table.constraints c'')) where
-          past_if : (x : Condition) → f.cond ≡ x → Limits (at + two.k) end (draw_condition at x) → PastCondition src at x g h → At src end h
-          past_if Always e i p = subst (λ (y : Walk). At src end y) (sym p) (at_on (omega (arith, two.fits)) end_in group_at)
-          past_if (If x) e i p =
+        module _ {h : Walk} {c'' : List ℕ} (wc : GoesCondition src at f.value.condition g h (lend Table.constraints c') (lend Table.constraints c'')) where
+          past_if : (x : Option Constraint) → f.value.condition ≡ x → Limits (at + two.k) end (draw_condition at x) → PastCondition src at x g h → At src end h
+          past_if None e i p = subst (λ (y : Walk). At src end y) (sym p) (at_on (omega (arith, two.fits)) end_in group_at)
+          past_if (Some x) e i p =
               p end i.1.0 end_in (omega (arith, group_at.few Table.constraints, two.some _ _ _ _ _ (ap (draw_condition at) e)))
 
           pub end_ready : At src end h
-          end_ready = past_if f.cond refl two.second wc.came
+          end_ready = past_if f.value.condition refl two.second wc.came
 
           module _ {e : Walk} (ce : Came src end h e) where
             abbrev group : List Item
@@ -200,9 +202,9 @@ module _ {src : List ℕ} {at : ℕ} {f : FieldMatch} {n : Walk} (w : Ready src 
                   arith,
                   same_counts ce.goes.wrote Table.fields,
                   wc.wrote.counts Table.fields,
-                  no_condition_fields src at f.cond,
+                  no_condition_fields src at f.value.condition,
                   wg.wrote.counts Table.fields,
-                  no_fields src (part_nodes at (drop at src) (desc_list f.desc.desc)),
+                  no_fields src (part_nodes at (drop at src) (desc_list f.value.desc.value)),
                   (starting same).counts Table.fields,
                   no_ints Table.fields,
                 )
@@ -219,21 +221,21 @@ module _ {src : List ℕ} {at : ℕ} {f : FieldMatch} {n : Walk} (w : Ready src 
             group_count : counted Table.constraints g - counted Table.constraints a ≡ field_count src at f
             group_count = omega (arith, wg.wrote.counts Table.constraints)
 
-            word_if : (x : Condition) → Wrote (cond_rows src at x) g h (lend Table.constraints c') (lend Table.constraints c'')
+            word_if : (x : Option Constraint) → Wrote (cond_rows src at x) g h (lend Table.constraints c') (lend Table.constraints c'')
                 → cond_word x (counted Table.constraints e) ≡ cond_word x (counted Table.constraints n + field_count src at f + 1)
             unfolding rows_of
-            word_if Always k = refl
-            word_if (If x) k = omega (arith, same_counts ce.goes.wrote Table.constraints, k.counts Table.constraints, group_count, grows, start_count)
+            word_if None k = refl
+            word_if (Some x) k = omega (arith, same_counts ce.goes.wrote Table.constraints, k.counts Table.constraints, group_count, grows, start_count)
 
             -- all but its row
-            parts : Wrote (ints ++ group ++ cond_rows src at f.cond ++ []) n e (lend Table.constraints c) (lend Table.constraints c'')
+            parts : Wrote (ints ++ group ++ cond_rows src at f.value.condition ++ []) n e (lend Table.constraints c) (lend Table.constraints c'')
             parts = wrote_then (wrote_then (wrote_then (starting (lend Table.constraints c)) wg.wrote) wc.wrote)
                 (wrote_in (lend Table.constraints c'') ce.goes.wrote)
 
             module _ {r : Walk} {ws fs fs' : List ℕ}
                 (ew : ws ≡ words_of_field d.kind a.here e.here d.a d.b d.c d.na d.nb
                 (first_of (counted Table.constraints a) (counted Table.constraints g - counted Table.constraints a))
-                (counted Table.constraints g - counted Table.constraints a) (cond_word f.cond (counted Table.constraints e)))
+                (counted Table.constraints g - counted Table.constraints a) (cond_word f.value.condition (counted Table.constraints e)))
                 (p : Put (slot Table.fields) ws e r fs fs') where
               abbrev own : List ℕ
               own = field_row src at f (field_says src at f) (counted Table.constraints n) (field_count src at f) (counted Table.constraints n
@@ -247,22 +249,23 @@ module _ {src : List ℕ} {at : ℕ} {f : FieldMatch} {n : Walk} (w : Ready src 
                   let eh : h.door ≡ Write = sym ce.goes.wrote.door ∙ z in
                   let ea : a.door ≡ Write = sym wg.wrote.door ∙ sym wc.wrote.door ∙ eh in
                   let ek' : k.door ≡ Write = sym ca.goes.wrote.door ∙ ea in
-                  ew ∙ rw (stood ca ek', stood ce eh, group_count, start_count, word_if f.cond wc.wrote, ed)
+                  ew ∙ rw (stood ca ek', stood ce eh, group_count, start_count, word_if f.value.condition wc.wrote, ed)
 
-              all : Wrote (ints ++ group ++ cond_rows src at f.cond ++ row Table.fields own ∷ []) n r
+              all : Wrote (ints ++ group ++ cond_rows src at f.value.condition ++ row Table.fields own ∷ []) n r
                   (λ l. lend Table.fields fs (lend Table.constraints c l)) (λ l. lend Table.fields fs' (lend Table.constraints c'' l))
               all =
-                  wrote_then {xs = ints ++ group ++ cond_rows src at f.cond}
-                  (wrote_as (append-nil (ints ++ group ++ cond_rows src at f.cond)) (wrote_in (lend Table.fields fs) parts))
+                  wrote_then {xs = ints ++ group ++ cond_rows src at f.value.condition}
+                  (wrote_as (append-nil (ints ++ group ++ cond_rows src at f.value.condition)) (wrote_in (lend Table.fields fs) parts))
                   (wrote_in (lend Table.constraints c'') (put_wrote Table.fields p own words long ce.goes.at.sized))
 
               items_are : (xs : List Item) → count Table.constraints xs ≡ counted Table.constraints n
-                  → ints ++ group ++ cond_rows src at f.cond ++ row Table.fields own ∷ [] ≡ parse_field_list src xs (draw_field at (drop at src) f)
+                  → ints ++ group ++ cond_rows src at f.value.condition ++ row Table.fields own ∷ [] ≡ parse_field_list src xs (draw_field at (drop at src) f)
               unfolding field_items
               items_are xs q =
-                  ap (λ (zs : List Item). zs ++ cond_rows src at f.cond ++ row Table.fields own ∷ []) (append_assoc (integer_items v) (desc_items d) group)
-                  ∙ ap₂ (λ (x : Number) (y : Described). integer_items x ++ (desc_items y ++ group) ++ cond_rows src at f.cond ++ row Table.fields own ∷ [])
-                  ev ed
+                  ap (λ (zs : List Item). zs ++ cond_rows src at f.value.condition ++ row Table.fields own ∷ [])
+                  (append_assoc (integer_items v) (desc_items d) group)
+                  ∙ ap₂ (λ (x : Option Number) (y : Described).
+                  integer_items x ++ (desc_items y ++ group) ++ cond_rows src at f.value.condition ++ row Table.fields own ∷ []) ev ed
                   ∙ ap (λ (i : ℕ). field_items src i at f) (sym q)
                   ∙ sym (field_items_lem src at f xs nil)
                   ∙ sym (own_items src xs Rule.field at (taken f.at) _)

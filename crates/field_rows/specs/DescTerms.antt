@@ -1,5 +1,5 @@
 -- What a field's description says in the words of its spans, and that this is what the walk makes of the nodes that it draws.
-use Rattle.std.specs.Prelude.{ℕ, ◌+◌, ◌≡◌, List, ◌++◌, eqb}
+use Rattle.std.specs.Prelude.{ℕ, ◌+◌, ◌≡◌, List, ◌++◌, eqb, Option, None, Some}
 use Rattle.std.proofs.Math.Path.{refl}
 use Rattle.std.proofs.Common.{subst}
 use Rattle.meaning.specs.Choice.{pick}
@@ -9,8 +9,6 @@ use Rattle.meaning.specs.Tables.{Item}
 use Rattle.meaning.specs.Rows.{field_words}
 use Rattle.meaning.specs.Walk.{place, name, optional, numbers, Desc, describe, described}
 use Rattle.spans.specs.declared.Span.{Span}
-use Rattle.spans.specs.declared.Part.{Part}
-use Rattle.spans.specs.declared.Part.TheVariants.{Absent, Here}
 use Rattle.spans.specs.declared.Operand.{Operand}
 use Rattle.spans.specs.declared.Operand.TheVariants.{Identifier, Integer}
 use Rattle.spans.specs.declared.ArraySize.{ArraySize}
@@ -24,31 +22,32 @@ use Rattle.spans.specs.Answers.{desc_list}
 use Rattle.walk.specs.declared.Described.{Described}
 use Rattle.walk.specs.declared.Name.{Name}
 use Rattle.walk.specs.declared.Number.{Number}
-use Rattle.walk.specs.Terms.{number_at, no_number, span_number, operand_number, size_number, integer_items, no_name, span_name, operand_name, size_name, part_name, target_name, Inside, InsideOperand, InsideSize, InsidePart, InsideTarget, words_of_field}
-use Rattle.walk.specs.Steps.{Sound}
-use Rattle.walk.specs.Sounds.{number_sound, none_sound, operand_sound, size_sound}
+use Rattle.walk.specs.declared.kinds.FieldKind.{FieldKind}
+use Rattle.walk.specs.declared.kinds.FieldKind.TheVariants as kinds
+use Rattle.walk.specs.Kinds.{field_number}
+use Rattle.walk.specs.Terms.{number_at, span_number, operand_number, size_number, integer_items, no_name, span_name, operand_name, size_name, part_name, target_name, Inside, InsideOperand, InsideSize, InsidePart, InsideTarget, words_of_field}
 use Rattle.constraint_rows.specs.OptionalLists.{part_nodes}
 
 -- ---- names a, b, c and numbers a, b, by the kind of a description
-abbrev pub terms : ℕ → Name → Name → Name → Number → Number → Described
+abbrev pub terms : FieldKind → Name → Name → Name → Option Number → Option Number → Described
 terms kind a b c na nb = record { kind = kind; a = a; b = b; c = c; na = na; nb = nb }
 
 abbrev pub described_as : List ℕ → ℕ → FieldDesc → Described
-described_as src o (Checksum id) = terms 1 (span_name o id) no_name no_name no_number no_number
-described_as src o (Padding size) = terms 2 no_name no_name no_name (span_number src o size) no_number
-described_as src o (Size id width) = terms 3 (target_name o id) no_name no_name (span_number src o width) no_number
-described_as src o (Count id width) = terms 4 (span_name o id) no_name no_name (span_number src o width) no_number
-described_as src o (ElementSize id width) = terms 5 (span_name o id) no_name no_name (span_number src o width) no_number
-described_as src o Body = terms 6 no_name no_name no_name no_number no_number
-described_as src o (Payload modifier) = terms 7 no_name no_name (part_name o modifier) no_number no_number
-described_as src o (FixedScalar value width) = terms 8 no_name no_name no_name (span_number src o width) (span_number src o value)
-described_as src o (FixedEnum tag type) = terms 9 (span_name o type) (span_name o tag) no_name no_number no_number
-described_as src o (Reserved width) = terms 10 no_name no_name no_name (span_number src o width) no_number
-described_as src o (Array id element size) = terms 11 (span_name o id) (operand_name o element) (size_name o size) (operand_number src o element)
+described_as src o (Checksum id) = terms kinds.Checksum (span_name o id) no_name no_name None None
+described_as src o (Padding size) = terms kinds.Padding no_name no_name no_name (span_number src o size) None
+described_as src o (Size id width) = terms kinds.Size (target_name o id) no_name no_name (span_number src o width) None
+described_as src o (Count id width) = terms kinds.Count (span_name o id) no_name no_name (span_number src o width) None
+described_as src o (ElementSize id width) = terms kinds.ElementSize (span_name o id) no_name no_name (span_number src o width) None
+described_as src o Body = terms kinds.Body no_name no_name no_name None None
+described_as src o (Payload modifier) = terms kinds.Payload no_name no_name (part_name o modifier) None None
+described_as src o (FixedScalar value width) = terms kinds.FixedScalar no_name no_name no_name (span_number src o width) (span_number src o value)
+described_as src o (FixedEnum tag type) = terms kinds.FixedEnum (span_name o type) (span_name o tag) no_name None None
+described_as src o (Reserved width) = terms kinds.Reserved no_name no_name no_name (span_number src o width) None
+described_as src o (Array id element size) = terms kinds.Array (span_name o id) (operand_name o element) (size_name o size) (operand_number src o element)
     (size_number src o size)
-described_as src o (Scalar id width) = terms 12 (span_name o id) no_name no_name (span_number src o width) no_number
-described_as src o (Typedef id type) = terms 13 (span_name o id) (span_name o type) no_name no_number no_number
-described_as src o (Group id constraints) = terms 14 (span_name o id) no_name no_name no_number no_number
+described_as src o (Scalar id width) = terms kinds.Scalar (span_name o id) no_name no_name (span_number src o width) None
+described_as src o (Typedef id type) = terms kinds.Typedef (span_name o id) (span_name o type) no_name None None
+described_as src o (Group id constraints) = terms kinds.Group (span_name o id) no_name no_name None None
 
 -- the spans of a description lie in a text of n bytes
 abbrev pub InsideDesc : ℕ → FieldDesc → Type 0
@@ -70,30 +69,9 @@ InsideDesc n (Group id constraints) = Inside n id
 pub known_inside : (n : ℕ) {f g : FieldDesc} → f ≡ g → InsideDesc n f → InsideDesc n g
 known_inside n e h = subst (λ (x : FieldDesc). InsideDesc n x) e h
 
--- both numbers are sound: one that is not there is not bad
-pub record Numbers (d : Described) : Type 0 where
-  pub na : Sound d.na
-  pub nb : Sound d.nb
-
-pub numbered : (src : List ℕ) (o : ℕ) (f : FieldDesc) → Numbers (described_as src o f)
-numbered src o (Checksum id) = record { na = none_sound; nb = none_sound }
-numbered src o (Padding size) = record { na = number_sound src _ _; nb = none_sound }
-numbered src o (Size id width) = record { na = number_sound src _ _; nb = none_sound }
-numbered src o (Count id width) = record { na = number_sound src _ _; nb = none_sound }
-numbered src o (ElementSize id width) = record { na = number_sound src _ _; nb = none_sound }
-numbered src o Body = record { na = none_sound; nb = none_sound }
-numbered src o (Payload modifier) = record { na = none_sound; nb = none_sound }
-numbered src o (FixedScalar value width) = record { na = number_sound src _ _; nb = number_sound src _ _ }
-numbered src o (FixedEnum tag type) = record { na = none_sound; nb = none_sound }
-numbered src o (Reserved width) = record { na = number_sound src _ _; nb = none_sound }
-numbered src o (Array id element size) = record { na = operand_sound src o element; nb = size_sound src o size }
-numbered src o (Scalar id width) = record { na = number_sound src _ _; nb = none_sound }
-numbered src o (Typedef id type) = record { na = none_sound; nb = none_sound }
-numbered src o (Group id constraints) = record { na = none_sound; nb = none_sound }
-
 -- the integers in the walk's order: a fixed scalar has its value, number b, before its width
 abbrev pub desc_items : Described → List Item
-desc_items d = pick (eqb d.kind 8) (integer_items d.nb ++ integer_items d.na) (integer_items d.na ++ integer_items d.nb)
+desc_items d = pick (eqb (field_number d.kind) 8) (integer_items d.nb ++ integer_items d.na) (integer_items d.na ++ integer_items d.nb)
 
 abbrev pub row_of : Described → List ℕ → ℕ → ℕ → ℕ → ℕ → ℕ → List ℕ
 row_of d src s l first n cond = words_of_field d.kind (place_at src s) (place_at src (s + l)) d.a d.b d.c d.na d.nb first n cond
@@ -116,10 +94,10 @@ module _ (src : List ℕ) (o : ℕ) (t : List ℕ) (n : ℕ) (more : Forest) whe
   size_says (OfPayload x) width = record { words = λ s l first n cond. refl; ints = refl; group = refl }
   size_says (OfBody x) width = record { words = λ s l first n cond. refl; ints = refl; group = refl }
 
-  payload_says : (modifier : Part) → DescSays (Payload modifier)
+  payload_says : (modifier : Option Span) → DescSays (Payload modifier)
   unfolding describe numbers number_at words_of_field
-  payload_says Absent = record { words = λ s l first n cond. refl; ints = refl; group = refl }
-  payload_says (Here x) = record { words = λ s l first n cond. refl; ints = refl; group = refl }
+  payload_says None = record { words = λ s l first n cond. refl; ints = refl; group = refl }
+  payload_says (Some x) = record { words = λ s l first n cond. refl; ints = refl; group = refl }
 
   array_says : (id : Span) (element : Operand) (size : ArraySize) → DescSays (Array id element size)
   unfolding describe numbers number_at words_of_field
@@ -130,10 +108,10 @@ module _ (src : List ℕ) (o : ℕ) (t : List ℕ) (n : ℕ) (more : Forest) whe
   array_says id (Integer e) (Modifier x) = record { words = λ s l first n cond. refl; ints = refl; group = refl }
   array_says id (Integer e) (Known x) = record { words = λ s l first n cond. refl; ints = refl; group = refl }
 
-  group_says : (id : Span) (list : Part) → DescSays (Group id list)
+  group_says : (id : Span) (list : Option Span) → DescSays (Group id list)
   unfolding describe numbers number_at words_of_field
-  group_says id Absent = record { words = λ s l first n cond. refl; ints = refl; group = refl }
-  group_says id (Here x) = record { words = λ s l first n cond. refl; ints = refl; group = refl }
+  group_says id None = record { words = λ s l first n cond. refl; ints = refl; group = refl }
+  group_says id (Some x) = record { words = λ s l first n cond. refl; ints = refl; group = refl }
 
   pub says : (f : FieldDesc) → DescSays f
   unfolding describe numbers number_at words_of_field

@@ -16,7 +16,8 @@ use Rattle.grammar.specs.Limits.{Limits, nodes_limits}
 use Rattle.lexis.specs.Leaves.{skip_none}
 use Rattle.spans.specs.declared.FieldDesc.{FieldDesc}
 use Rattle.spans.specs.declared.FieldDesc.TheVariants.{Checksum, Padding, Size, Count, ElementSize, Body, Payload, FixedScalar, FixedEnum, Reserved, Array, Scalar, Typedef, Group}
-use Rattle.spans.specs.declared.FieldMatch.{FieldMatch}
+use Rattle.spans.specs.declared.Matched.{Matched}
+use Rattle.spans.specs.declared.Field.{Field}
 use Rattle.spans.specs.Drawn.{draw_condition, draw_desc, draw_field}
 use Rattle.spans.specs.Answers.{Fielded}
 
@@ -88,7 +89,7 @@ abbrev back : ℕ → List ℕ → Forest
 back o t = nodes (bytewise tail) (o + cut t) (drop (cut t) t)
 
 -- the match of the description, and of what follows it
-module _ {t : List ℕ} {f : FieldMatch} (d : Fielded t f) (h : hit f.at ≡ true) where
+module _ {t : List ℕ} {f : Matched Field} (d : Fielded t f) (h : hit f.at ≡ true) where
   both : hit (after (run (bytewise field_desc) t) (λ u. run (bytewise tail) u) t) ≡ true
   unfolding field run
   both = ap hit (sym d.drawn.reads.is) ∙ h
@@ -99,7 +100,7 @@ module _ {t : List ℕ} {f : FieldMatch} (d : Fielded t f) (h : hit f.at ≡ tru
   back_hit : hit (run (bytewise tail) (drop (cut t) t)) ≡ true
   back_hit = hit_behind (run (bytewise field_desc) t) (λ u. run (bytewise tail) u) t both
 
-  pub desc_hit : hit f.desc.at ≡ true
+  pub desc_hit : hit f.value.desc.at ≡ true
   desc_hit = ap hit d.described.drawn.reads.is ∙ front_hit
 
   long : taken f.at ≡ cut t + taken (run (bytewise tail) (drop (cut t) t))
@@ -107,20 +108,20 @@ module _ {t : List ℕ} {f : FieldMatch} (d : Fielded t f) (h : hit f.at ≡ tru
   long = ap taken d.drawn.reads.is ∙ taken_after (run (bytewise field_desc) t) (λ u. run (bytewise tail) u) t both
 
   -- the description's nodes are those that it draws, so the others are the condition's
-  condition_is : (o : ℕ) → back o t ≡ draw_condition o f.cond
+  condition_is : (o : ℕ) → back o t ≡ draw_condition o f.value.condition
   unfolding field run
   condition_is o =
-      let v : Forest = draw_desc o t (taken f.desc.at) f.desc.desc in
+      let v : Forest = draw_desc o t (taken f.value.desc.at) f.value.desc.value in
       let l : ℕ = taken (run (bytewise (seq field_desc tail)) t) in
       let x : tree Rule.field o l (v ⊕ back o t) nil ≡ draw_field o t f
       = ap (λ (w : Forest). tree Rule.field o l (w ⊕ back o t) nil) (sym (d.described.drawn.draws desc_hit o))
       ∙ ap (λ (w : Forest). tree Rule.field o l w nil) (sym (nodes_seq (bytewise field_desc) (bytewise tail) o t front_hit back_hit))
       ∙ sym (nodes_rule Rule.field (bytewise (seq field_desc tail)) o t refl both) ∙ d.drawn.draws h o in
-      let e : v ⊕ back o t ≡ v ⊕ draw_condition o f.cond = cc in
-      sym (following_desc o t (taken f.desc.at) f.desc.desc (back o t)) ∙ ap following e
-      ∙ following_desc o t (taken f.desc.at) f.desc.desc (draw_condition o f.cond)
+      let e : v ⊕ back o t ≡ v ⊕ draw_condition o f.value.condition = cc in
+      sym (following_desc o t (taken f.value.desc.at) f.value.desc.value (back o t)) ∙ ap following e
+      ∙ following_desc o t (taken f.value.desc.at) f.value.desc.value (draw_condition o f.value.condition)
 
-  pub halves : (o : ℕ) → Halves o (taken f.at) (draw_desc o t (taken f.desc.at) f.desc.desc) (draw_condition o f.cond)
+  pub halves : (o : ℕ) → Halves o (taken f.at) (draw_desc o t (taken f.value.desc.at) f.value.desc.value) (draw_condition o f.value.condition)
   halves o =
       let i : o + cut t + taken (run (bytewise tail) (drop (cut t) t)) ≡ o + taken f.at = omega (arith, long) in
       record {

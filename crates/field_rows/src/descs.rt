@@ -1,33 +1,34 @@
 // What a field's description says: its kind, its names a, b, c and its numbers a, b; and the list of a group.
-ghost use Rattle.std.specs.Prelude.{◌≡◌, ◌-◌, ◌≤◌, length};
+ghost use Rattle.std.specs.Prelude.{None, ◌≡◌, ◌-◌, ◌≤◌, length};
 ghost use Rattle.spans.specs.declared.FieldDesc.TheVariants.{Array};
 ghost use Rattle.spans.specs.Answers.{desc_list};
-ghost use Rattle.walk.specs.Terms.{no_number, span_number, no_name, span_name, Inside};
+ghost use Rattle.walk.specs.Terms.{span_number, no_name, span_name, Inside};
 ghost use Rattle.field_rows.specs.DescTerms.{terms, described_as, InsideDesc};
 
-use spans::{ArraySize, FieldDesc, Operand, Part, Span};
+use spans::{ArraySize, FieldDesc, Operand, Span};
+use walk::kinds::FieldKind;
 use walk::terms::{
-    no_name, no_number, operand_name, operand_number, part_name, size_name, size_number, span_name,
+    no_name, operand_name, operand_number, part_name, size_name, size_number, span_name,
     span_number, target_name,
 };
 use walk::{Described, Name, Number};
 
 // Names alone.
-fn named(kind: u64, a: Name, b: Name, c: Name) -> Described
-    ensures { result ≡ terms kind a b c no_number no_number }
+fn named(kind: FieldKind, a: Name, b: Name, c: Name) -> Described
+    ensures { result ≡ terms kind a b c None None }
 {
     Described {
         kind,
         a,
         b,
         c,
-        na: no_number(),
-        nb: no_number(),
+        na: None,
+        nb: None,
     }
 }
 
 // A name, if there is one, and numbers.
-fn sized(kind: u64, a: Name, na: Number, nb: Number) -> Described
+fn sized(kind: FieldKind, a: Name, na: Option<Number>, nb: Option<Number>) -> Described
     ensures { result ≡ terms kind a no_name no_name na nb }
 {
     Described {
@@ -41,15 +42,15 @@ fn sized(kind: u64, a: Name, na: Number, nb: Number) -> Described
 }
 
 // A name and its number, whose spans are counted from `at`.
-fn measured(s: &[u8], at: usize, kind: u64, id: Span, width: Span) -> Described
+fn measured(s: &[u8], at: usize, kind: FieldKind, id: Span, width: Span) -> Described
     requires { (at ≤ length s.now) × (Inside (length s.now - at) id × Inside (length s.now - at) width) }
-    ensures { result ≡ terms kind (span_name at id) no_name no_name (span_number s.now at width) no_number }
+    ensures { result ≡ terms kind (span_name at id) no_name no_name (span_number s.now at width) None }
 {
     sized(
         kind,
         span_name(at, id),
-        span_number(s, at, width),
-        no_number(),
+        Some(span_number(s, at, width)),
+        None,
     )
 }
 
@@ -60,7 +61,7 @@ fn array(s: &[u8], at: usize, id: Span, element: Operand, size: ArraySize) -> De
 {
     let n = s.len() - at;
     Described {
-        kind: 11,
+        kind: FieldKind::Array,
         a: span_name(at, id),
         b: operand_name(at, n, element),
         c: size_name(at, n, size),
@@ -76,53 +77,65 @@ pub fn describe(s: &[u8], at: usize, desc: FieldDesc) -> Described
 {
     let n = s.len() - at;
     let no = no_name();
-    let zero = no_number();
     match desc {
-        FieldDesc::Checksum(id) => named(1, span_name(at, id), no, no),
-        FieldDesc::Padding(size) => sized(2, no, span_number(s, at, size), zero),
-        FieldDesc::Size(id, width) => sized(
-            3,
-            target_name(at, n, id),
-            span_number(s, at, width),
-            zero,
-        ),
-        FieldDesc::Count(id, width) => measured(s, at, 4, id, width),
-        FieldDesc::ElementSize(id, width) => measured(s, at, 5, id, width),
-        FieldDesc::Body => named(6, no, no, no),
-        FieldDesc::Payload(modifier) => named(7, no, no, part_name(at, n, modifier)),
-        FieldDesc::FixedScalar(value, width) => sized(
-            8,
+        FieldDesc::Checksum(id) => named(FieldKind::Checksum, span_name(at, id), no, no),
+        FieldDesc::Padding(size) => sized(
+            FieldKind::Padding,
             no,
-            span_number(s, at, width),
-            span_number(s, at, value),
+            Some(span_number(s, at, size)),
+            None,
         ),
-        FieldDesc::FixedEnum(tag, name) => named(9, span_name(at, name), span_name(at, tag), no),
-        FieldDesc::Reserved(width) => sized(10, no, span_number(s, at, width), zero),
+        FieldDesc::Size(id, width) => sized(
+            FieldKind::Size,
+            target_name(at, n, id),
+            Some(span_number(s, at, width)),
+            None,
+        ),
+        FieldDesc::Count(id, width) => measured(s, at, FieldKind::Count, id, width),
+        FieldDesc::ElementSize(id, width) => measured(s, at, FieldKind::ElementSize, id, width),
+        FieldDesc::Body => named(FieldKind::Body, no, no, no),
+        FieldDesc::Payload(modifier) => named(
+            FieldKind::Payload,
+            no,
+            no,
+            part_name(at, n, modifier),
+        ),
+        FieldDesc::FixedScalar(value, width) => sized(
+            FieldKind::FixedScalar,
+            no,
+            Some(span_number(s, at, width)),
+            Some(span_number(s, at, value)),
+        ),
+        FieldDesc::FixedEnum(tag, name) => named(
+            FieldKind::FixedEnum,
+            span_name(at, name),
+            span_name(at, tag),
+            no,
+        ),
+        FieldDesc::Reserved(width) => sized(
+            FieldKind::Reserved,
+            no,
+            Some(span_number(s, at, width)),
+            None,
+        ),
         FieldDesc::Array(id, element, size) => array(s, at, id, element, size),
-        FieldDesc::Scalar(id, width) => measured(s, at, 12, id, width),
-        FieldDesc::Typedef(id, name) => named(13, span_name(at, id), span_name(at, name), no),
-        FieldDesc::Group(id, _) => named(14, span_name(at, id), no, no),
+        FieldDesc::Scalar(id, width) => measured(s, at, FieldKind::Scalar, id, width),
+        FieldDesc::Typedef(id, name) => named(
+            FieldKind::Typedef,
+            span_name(at, id),
+            span_name(at, name),
+            no,
+        ),
+        FieldDesc::Group(id, _) => named(FieldKind::Group, span_name(at, id), no, no),
     }
 }
 
 // The constraints of a group; no other description has any.
-pub fn group_of(desc: FieldDesc) -> Part
+pub fn group_of(desc: FieldDesc) -> Option<Span>
     ensures { result ≡ desc_list desc }
 {
     match desc {
-        FieldDesc::Checksum(_) => Part::Absent,
-        FieldDesc::Padding(_) => Part::Absent,
-        FieldDesc::Size(_, _) => Part::Absent,
-        FieldDesc::Count(_, _) => Part::Absent,
-        FieldDesc::ElementSize(_, _) => Part::Absent,
-        FieldDesc::Body => Part::Absent,
-        FieldDesc::Payload(_) => Part::Absent,
-        FieldDesc::FixedScalar(_, _) => Part::Absent,
-        FieldDesc::FixedEnum(_, _) => Part::Absent,
-        FieldDesc::Reserved(_) => Part::Absent,
-        FieldDesc::Array(_, _, _) => Part::Absent,
-        FieldDesc::Scalar(_, _) => Part::Absent,
-        FieldDesc::Typedef(_, _) => Part::Absent,
         FieldDesc::Group(_, list) => list,
+        _ => None,
     }
 }

@@ -1,9 +1,10 @@
 -- What the functions over tags ask of their callees, and what they come to.
 use Prim.Native.Nat.{ℕ, ◌+◌, ◌^◌, ◌≤◌, ◌<◌}
 use native.Mathlib.Omega.{arith}
-use mathlib.Core.Path.{◌≡◌, ap, ap₂, subst, sym, ◌∙◌}
+use mathlib.Core.Path.{◌≡◌, ap, subst, sym, ◌∙◌}
 use mathlib.Core.List.{List, [], ◌∷◌}
 use lib.ListN.{length, drop}
+use Rattle.std.proofs.Common.{Option, None, ◌⊎◌, inl, inr}
 use Rattle.meaning.specs.Rules.{Rule}
 use Rattle.meaning.specs.Peg.{taken}
 use Rattle.meaning.specs.Forest.{Forest}
@@ -17,21 +18,23 @@ use Rattle.spans.specs.declared.TagRange.{TagRange}
 use Rattle.spans.specs.declared.TagOther.{TagOther}
 use Rattle.spans.specs.declared.Tag.{Tag}
 use Rattle.spans.specs.declared.Tag.TheVariants.{Value, Range, Other}
-use Rattle.spans.specs.declared.TagMatch.{TagMatch}
+use Rattle.spans.specs.declared.Matched.{Matched}
 use Rattle.spans.specs.Drawn.{leaf_at, draw_tag}
 use Rattle.spans.specs.Answers.{SoundTag}
 use Rattle.walk.specs.declared.Door.TheVariants.{Write}
 use Rattle.walk.specs.declared.Name.{Name}
 use Rattle.walk.specs.declared.Number.{Number}
+use Rattle.walk.specs.declared.kinds.TagKind.{TagKind}
+use Rattle.walk.specs.declared.kinds.TagKind.TheVariants as kinds
 use Rattle.walk.specs.declared.Walk.{Walk}
 use Rattle.walk.specs.Insides.{span_inside}
-use Rattle.walk.specs.Terms.{integer_items, no_number, span_name, words_of_tag, span_number}
-use Rattle.walk.specs.Sounds.{number_sound, tag_sized}
-use Rattle.walk.specs.State.{slot, counted, lend, after_integer, At, Goes, same, Came, Knows, Put}
+use Rattle.walk.specs.Terms.{integer_items, span_name, words_of_tag, span_number}
+use Rattle.walk.specs.Sounds.{tag_sized}
+use Rattle.walk.specs.State.{slot, counted, lend, after_number, At, Goes, same, Came, Knows, Put}
 use Rattle.walk.specs.Steps.{wrote_then, at_on, goes_none, goes_then, goes_in, goes_as, integer_goes}
 use Rattle.walk.specs.Doors.{put_asks, put_goes, stood, spare}
-use Rattle.walk.specs.Lists.{GoesOne, found_drawn, found_hit, found_some, found_in, one_done}
-use Rattle.tag_rows.specs.Tags.{value_form, tag_form, row_words, value_items, other_items, range_items, inside_value, inside_range, inside_other, tag_value, tag_range, tag_other, Placed, PlacedValue, PlacedRange, Ready}
+use Rattle.walk.specs.Lists.{Ready, GoesOne, found_drawn, found_hit, found_some, found_in, one_done}
+use Rattle.tag_rows.specs.Tags.{value_form, tag_form, row_words, value_items, other_items, range_items, inside_value, inside_range, inside_other, tag_value, tag_range, tag_other, Placed, PlacedValue, PlacedRange}
 use Rattle.tag_rows.specs.Braces.{tag_behind, braced}
 
 -- ---- one row: the walk comes to its start as a, and to its end as b
@@ -47,7 +50,7 @@ module _ {src : List ℕ} {at len : ℕ} {id : Span} {n : Walk} (w : Placed src 
       pub row_asks : length src < 2 ^ 64 → Knows b (slot Table.tags)
       row_asks s = put_asks Table.tags cb.goes.at row_spare s
 
-      pub row_done : (kind : ℕ) (v e : Number) (inner : ℕ) {r : Walk} {name : Name} {ws t t' : List ℕ} → name ≡ span_name at id
+      pub row_done : (kind : TagKind) (v e : Option Number) (inner : ℕ) {r : Walk} {name : Name} {ws t t' : List ℕ} → name ≡ span_name at id
           → ws ≡ words_of_tag kind a.here b.here name v e inner → Put (slot Table.tags) ws b r t t'
           → Goes (row Table.tags (row_words src at len kind id v e inner) ∷ []) src (at + len) n r (lend Table.tags t) (lend Table.tags t')
       unfolding row_words
@@ -64,31 +67,26 @@ module _ {src : List ℕ} {at len : ℕ} {id : Span} {n : Walk} (w : Placed src 
               ew ∙ rw (stood ca eb, stood cb ea, en)
 
   -- a number is noted before
-  pub noting : {x : Number} (y : Span) {m : Walk} → x ≡ span_number src at y → m ≡ after_integer x.place x.reason n → (a : Lent → Lent)
+  pub noting : {x : Option Number} (y : Span) {m : Walk} → x ≡ span_number src at y → m ≡ after_number x n → (a : Lent → Lent)
       → Goes (integer_items (span_number src at y)) src at n m a a
   noting {x} y {m} ex em a =
-      integer_goes (number_sound src _ _) a (em ∙ ap (λ (z : Number). after_integer z.place z.reason n) ex) w.came
+      integer_goes (span_number src at y) a (em ∙ ap (λ (z : Option Number). after_number z n) ex) w.came
 
   pub placed_at : {m : Walk} → At src at m → Placed src at len id m
   placed_at h = record { came = h; some = w.some; within = w.within; name = w.name }
 
 -- ---- a value
-module _ {src : List ℕ} {at len : ℕ} {v : TagValue} {n : Walk} (w : PlacedValue src at len v n) {x : Number} {m : Walk}
-    (ex : x ≡ span_number src at v.value) (em : m ≡ after_integer x.place x.reason n) where
+module _ {src : List ℕ} {at len : ℕ} {v : TagValue} {n : Walk} (w : PlacedValue src at len v n) {x : Option Number} {m : Walk}
+    (ex : x ≡ span_number src at v.value) (em : m ≡ after_number x n) where
   pub value_ready : Placed src at len v.id m
   value_ready = placed_at w.place (noting w.place v.value ex em same).at
 
-  pub value_done : (kind : ℕ) {r : Walk} {e : Number} {t t' : List ℕ} → e ≡ no_number
-      → Goes (row Table.tags (row_words src at len kind v.id x e 0) ∷ []) src (at + len) m r (lend Table.tags t) (lend Table.tags t')
+  pub value_done : (kind : TagKind) {r : Walk} {t t' : List ℕ}
+      → Goes (row Table.tags (row_words src at len kind v.id x None 0) ∷ []) src (at + len) m r (lend Table.tags t) (lend Table.tags t')
       → Goes (value_items src kind at len v) src (at + len) n r (lend Table.tags t) (lend Table.tags t')
-  value_done kind {r} {e} {t} {t'} ee g =
+  value_done kind {r} {t} {t'} g =
       goes_then (noting w.place v.value ex em (lend Table.tags t))
-      (goes_as (ap₂ (λ (y z : Number). row Table.tags (row_words src at len kind v.id y z 0) ∷ []) ex ee) g)
-
--- ---- the default
-pub other_done : (src : List ℕ) (at len : ℕ) (x : TagOther) {e : Number} {n r : Walk} {a b : Lent → Lent} → e ≡ no_number
-    → Goes (row Table.tags (row_words src at len 3 x.id e e 0) ∷ []) src (at + len) n r a b → Goes (other_items src at len x) src (at + len) n r a b
-other_done src at len x ee g = goes_as (ap (λ (y : Number). row Table.tags (row_words src at len 3 x.id y y 0) ∷ []) ee) g
+      (goes_as (ap (λ (y : Option Number). row Table.tags (row_words src at len kind v.id y None 0) ∷ []) ex) g)
 
 -- ---- the spans of an answer of k bytes at `at`, by its tag
 module _ (src : List ℕ) (at k : ℕ) (n : Walk) (came : At src at n) (some : at < at + k) (within : at + k ≤ length src) where
@@ -119,33 +117,31 @@ module _ (src : List ℕ) (at k : ℕ) (n : Walk) (came : At src at n) (some : a
       }
 
 -- ---- an answer inside a range: the values, and no other tags
-module _ {src : List ℕ} {at : ℕ} {c : TagMatch} {n : Walk} (w : Ready value_form src at c n) {len : ℕ} (el : len ≡ taken c.at) where
-  pub inner_ready : {v : TagValue} → c.tag ≡ Value v → PlacedValue src at len v n
+module _ {src : List ℕ} {at : ℕ} {c : Matched Tag} {n : Walk} (w : Ready value_form src at c n) {len : ℕ} (el : len ≡ taken c.at) where
+  pub inner_ready : {v : TagValue} → c.value ≡ Value v → PlacedValue src at len v n
   inner_ready {v} e =
       subst (λ (k : ℕ). PlacedValue src at k v n) (sym el)
       (value_placed src at (taken c.at) n w.came (found_some w.found) (found_in w.found) v
       (subst (λ (y : Tag). Limits at (at + taken c.at) (draw_tag at (drop at src) (taken c.at) y)) e
       (draws_limits (found_drawn w.found) w.found.hits at)))
 
-  pub inner_done : {v : TagValue} {r : Walk} {a b : Lent → Lent} → c.tag ≡ Value v → Goes (value_items src 4 at len v) src (at + len) n r a b
+  pub inner_done : {v : TagValue} {r : Walk} {a b : Lent → Lent} → c.value ≡ Value v → Goes (value_items src kinds.ValueInRange at len v) src (at + len) n r a b
       → GoesOne value_form src at c n r a b
-  inner_done {v} e g = one_done {z = value_form} el (λ xs. ap (λ (k : ℕ). value_items src 4 at k v) el ∙ sym (inside_value src at c v e)) g
+  inner_done {v} e g = one_done {z = value_form} el (λ xs. ap (λ (k : ℕ). value_items src kinds.ValueInRange at k v) el ∙ sym (inside_value src at c v e)) g
 
   inner_other : {a : Lent → Lent} → value_form.items src [] (value_form.draw c (drop at src) at) ≡ [] → GoesOne value_form src at c n n a a
   inner_other {a} e = one_done {z = value_form} el (λ xs. sym e) (goes_none a (at_on (omega arith) (omega (arith, el, found_in w.found)) w.came))
 
-  pub inner_range : {x : TagRange} {a : Lent → Lent} → c.tag ≡ Range x → GoesOne value_form src at c n n a a
-  inner_range {x} e = inner_other (inside_range src at c x e)
-
-  pub inner_default : {x : TagOther} {a : Lent → Lent} → c.tag ≡ Other x → GoesOne value_form src at c n n a a
-  inner_default {x} e = inner_other (inside_other src at c x e)
+  pub inner_none : {a : Lent → Lent} → ((x : TagRange) × (c.value ≡ Range x)) ⊎ ((x : TagOther) × (c.value ≡ Other x)) → GoesOne value_form src at c n n a a
+  inner_none (inl q) = inner_other (inside_range src at c q.0 q.1)
+  inner_none (inr q) = inner_other (inside_other src at c q.0 q.1)
 
 -- ---- an answer of the enum's list
-module _ {src : List ℕ} {at : ℕ} {c : TagMatch} {n : Walk} (w : Ready tag_form src at c n) {len : ℕ} (el : len ≡ taken c.at) where
-  tag_limits : Limits at (at + taken c.at) (draw_tag at (drop at src) (taken c.at) c.tag)
+module _ {src : List ℕ} {at : ℕ} {c : Matched Tag} {n : Walk} (w : Ready tag_form src at c n) {len : ℕ} (el : len ≡ taken c.at) where
+  tag_limits : Limits at (at + taken c.at) (draw_tag at (drop at src) (taken c.at) c.value)
   tag_limits = (draws_limits (found_drawn w.found) w.found.hits at).1.1.0
 
-  tag_from : From (at + 1) (following (kids_of (draw_tag at (drop at src) (taken c.at) c.tag)))
+  tag_from : From (at + 1) (following (kids_of (draw_tag at (drop at src) (taken c.at) c.value)))
   tag_from =
       subst (λ (v : Forest). From (at + 1) (following (kids_of (kids_of v)))) ((found_drawn w.found).draws w.found.hits at)
       (tag_behind at (drop at src) (found_hit w.found))
@@ -153,29 +149,30 @@ module _ {src : List ℕ} {at : ℕ} {c : TagMatch} {n : Walk} (w : Ready tag_fo
   abbrev TagLimits : Tag → Type 0
   TagLimits y = Limits at (at + taken c.at) (draw_tag at (drop at src) (taken c.at) y)
 
-  pub tag_value_ready : {v : TagValue} → c.tag ≡ Value v → PlacedValue src at len v n
+  pub tag_value_ready : {v : TagValue} → c.value ≡ Value v → PlacedValue src at len v n
   tag_value_ready {v} e =
       subst (λ (k : ℕ). PlacedValue src at k v n) (sym el)
       (value_placed src at (taken c.at) n w.came (found_some w.found) (found_in w.found) v (subst TagLimits e tag_limits))
 
-  pub tag_range_ready : {x : TagRange} → c.tag ≡ Range x → PlacedRange src at len x n
+  pub tag_range_ready : {x : TagRange} → c.value ≡ Range x → PlacedRange src at len x n
   tag_range_ready {x} e =
       subst (λ (k : ℕ). PlacedRange src at k x n) (sym el)
       (range_placed src at (taken c.at) n w.came (found_some w.found) (found_in w.found) x
       (subst (SoundTag (drop at src)) e (w.found.answered.sound w.found.hits)) (subst TagLimits e tag_limits)
       (subst (λ (y : Tag). From (at + 1) (following (kids_of (draw_tag at (drop at src) (taken c.at) y)))) e tag_from))
 
-  pub tag_other_ready : {x : TagOther} → c.tag ≡ Other x → Placed src at len x.id n
+  pub tag_other_ready : {x : TagOther} → c.value ≡ Other x → Placed src at len x.id n
   tag_other_ready {x} e =
       subst (λ (k : ℕ). Placed src at k x.id n) (sym el)
       (other_placed src at (taken c.at) n w.came (found_some w.found) (found_in w.found) x (subst TagLimits e tag_limits))
 
   module _ {r : Walk} {a b : Lent → Lent} where
-    pub tag_value_done : {v : TagValue} → c.tag ≡ Value v → Goes (value_items src 1 at len v) src (at + len) n r a b → GoesOne tag_form src at c n r a b
-    tag_value_done {v} e g = one_done {z = tag_form} el (λ xs. ap (λ (k : ℕ). value_items src 1 at k v) el ∙ sym (tag_value src at c v e)) g
+    pub tag_value_done : {v : TagValue} → c.value ≡ Value v → Goes (value_items src kinds.Value at len v) src (at + len) n r a b
+        → GoesOne tag_form src at c n r a b
+    tag_value_done {v} e g = one_done {z = tag_form} el (λ xs. ap (λ (k : ℕ). value_items src kinds.Value at k v) el ∙ sym (tag_value src at c v e)) g
 
-    pub tag_range_done : {x : TagRange} → c.tag ≡ Range x → Goes (range_items src at len x) src (at + len) n r a b → GoesOne tag_form src at c n r a b
+    pub tag_range_done : {x : TagRange} → c.value ≡ Range x → Goes (range_items src at len x) src (at + len) n r a b → GoesOne tag_form src at c n r a b
     tag_range_done {x} e g = one_done {z = tag_form} el (λ xs. ap (λ (k : ℕ). range_items src at k x) el ∙ sym (tag_range src at c x e)) g
 
-    pub tag_other_done : {x : TagOther} → c.tag ≡ Other x → Goes (other_items src at len x) src (at + len) n r a b → GoesOne tag_form src at c n r a b
+    pub tag_other_done : {x : TagOther} → c.value ≡ Other x → Goes (other_items src at len x) src (at + len) n r a b → GoesOne tag_form src at c n r a b
     tag_other_done {x} e g = one_done {z = tag_form} el (λ xs. ap (λ (k : ℕ). other_items src at k x) el ∙ sym (tag_other src at c x e)) g

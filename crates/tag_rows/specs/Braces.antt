@@ -1,5 +1,5 @@
 -- The list in a range's braces: its nodes, and that it stands behind the range's first byte and inside its bytes.
-use Rattle.std.specs.Prelude.{ℕ, ◌+◌, ◌≤◌, ◌<◌, ◌≡◌, refl, List, true, drop}
+use Rattle.std.specs.Prelude.{ℕ, ◌+◌, ◌≤◌, ◌<◌, ◌≡◌, refl, List, true, drop, Option, Some}
 use Rattle.std.proofs.Common.{arith, ap, subst, sym, ◌∙◌}
 use Rattle.meaning.specs.Rules.{Rule}
 use Rattle.meaning.specs.Peg.{alt, run, bytewise, hit}
@@ -10,10 +10,8 @@ use Rattle.grammar.specs.Nodes.{nodes_rule}
 use Rattle.grammar.specs.Limits.{Limits}
 use Rattle.grammar.specs.Order.{From, Led, led_rule, led_seq, kids_of, Rooted, rooted_rule, rooted_alt}
 use Rattle.spans.specs.declared.Span.{Span}
-use Rattle.spans.specs.declared.Part.{Part}
-use Rattle.spans.specs.declared.Part.TheVariants.{Here}
 use Rattle.spans.specs.Drawn.{list_at}
-use Rattle.spans.specs.Answers.{Matched, MatchedPart}
+use Rattle.spans.specs.Answers.{MatchedList, MatchedPart}
 use Rattle.walk.specs.Listing.{ListRule, comma_list}
 use Rattle.walk.specs.Lists.{list_nodes, stop}
 use Rattle.walk.specs.PartLists.{list_node, list_ends}
@@ -50,19 +48,19 @@ unfolding enum_value_list
 value_rule = comma_list Rule.enum_value_list enum_value refl
 
 module _ (src : List ℕ) (o : ℕ) where
-  pub inner_items_lem : {g : Span} → Matched enum_value_list (drop o src) g
-      → inner_items src o (Here g) ≡ values_items src (list_nodes value_form src (o + g.start))
+  pub inner_items_lem : {g : Span} → MatchedList enum_value_list (drop o src) g
+      → inner_items src o (Some g) ≡ values_items src (list_nodes value_form src (o + g.start))
   inner_items_lem m = ap (λ (v : Forest). values_items src (part Rule.enum_value_list v).kids) (list_node value_form value_rule src o m)
 
   -- its node starts behind the first byte and ends inside the bytes
-  pub braced : (list : Part) (n : ℕ) → MatchedPart enum_value_list (drop o src) list → Limits o (o + n) (list_at enum_value_list o (drop o src) list)
+  pub braced : (list : Option Span) (n : ℕ) → MatchedPart enum_value_list (drop o src) list → Limits o (o + n) (list_at enum_value_list o (drop o src) list)
       → From (o + 1) (list_at enum_value_list o (drop o src) list) → Braced src o n list
   braced list n m h b = record { stands = m; inside = there }
     where
-      there : (g : Span) → list ≡ Here g → (0 < g.start) × (stop value_form src (o + g.start) ≤ o + n)
+      there : (g : Span) → list ≡ Some g → (0 < g.start) × (stop value_form src (o + g.start) ≤ o + n)
       there g e =
-          let m' = subst (λ (p : Part). MatchedPart enum_value_list (drop o src) p) e m in
-          let h' = subst (λ (p : Part). Limits o (o + n) (list_at enum_value_list o (drop o src) p)) e h in
+          let m' = subst (λ (p : Option Span). MatchedPart enum_value_list (drop o src) p) e m in
+          let h' = subst (λ (p : Option Span). Limits o (o + n) (list_at enum_value_list o (drop o src) p)) e h in
           let b' = subst (λ (f : Forest). From (o + 1) f) (ap (list_at enum_value_list o (drop o src)) e ∙ list_node value_form value_rule src o m') b in
           let x : o + 1 ≤ o + g.start = b'.0 in
           (omega (arith, x), list_ends value_form value_rule src o m' o (o + n) h')

@@ -4,11 +4,13 @@
 ghost use Rattle.std.specs.Prelude.{◌+◌, ◌≡◌, [], ◌∷◌};
 ghost use Rattle.meaning.specs.Tables.{Table, row};
 ghost use Rattle.walk.specs.State.{lend, placed, Goes};
-ghost use Rattle.walk.specs.Lists.{GoesOne, GoesAll, GoesList};
-ghost use Rattle.tag_rows.specs.Tags.{value_form, tag_form, row_words, value_items, other_items, range_items, Placed, PlacedValue, PlacedRange, Ready, Counted};
+ghost use Rattle.walk.specs.Lists.{slice_of, Ready, GoesOne, GoesAll, GoesList};
+ghost use Rattle.tag_rows.specs.Tags.{value_form, tag_form, row_words, value_items, other_items, range_items, Placed, PlacedValue, PlacedRange, Counted};
 
 use meaning::SourceLocation;
-use spans::{Part, Span, Tag, TagMatch, TagOther, TagRange, TagValue};
+use spans::{Matched, Span, Tag, TagOther, TagRange, TagValue};
+use walk::kinds::TagKind;
+use walk::lists::{Items, put_items};
 use walk::{Door, Number, Walk, Walked};
 
 // The row of a tag of len bytes at `at`; its numbers were noted before.
@@ -16,10 +18,10 @@ fn put_row(
     s: &[u8],
     at: usize,
     len: usize,
-    kind: u64,
+    kind: TagKind,
     id: Span,
-    v: Number,
-    e: Number,
+    v: Option<Number>,
+    e: Option<Number>,
     inner: usize,
     n: Walk,
     t: &mut [u64],
@@ -28,13 +30,11 @@ fn put_row(
     ensures { Goes (row Table.tags (row_words s.now at len kind id v e inner) ∷ []) s.now (at + len) n result
         (lend Table.tags t.old) (lend Table.tags t.new) }
 {
-    let a = walk::to(s, n, at);
-    let b = walk::to(s, a, at + len);
-    let p = a.here;
-    let q = b.here;
+    let a = n.to(s, at);
+    let b = a.to(s, at + len);
     let name = walk::terms::span_name(at, id);
-    let row = walk::rows::tag_row(kind, p, q, name, v, e, inner);
-    walk::put(b, walk::TAGS, &row, t)
+    let row = walk::rows::tag_row(kind, a.here, b.here, name, v, e, inner);
+    b.put(walk::Table::Tags, &row, t)
 }
 
 // A value, alone or inside a range by its kind: its number is noted, its row comes to the door.
@@ -43,7 +43,7 @@ fn put_value(
     s: &[u8],
     at: usize,
     len: usize,
-    kind: u64,
+    kind: TagKind,
     v: TagValue,
     n: Walk,
     t: &mut [u64],
@@ -52,10 +52,8 @@ fn put_value(
     ensures { Goes (value_items s.now kind at len v) s.now (at + len) n result
         (lend Table.tags t.old) (lend Table.tags t.new) }
 {
-    let value = v.value;
-    let x = walk::terms::integer_at(s, at + value.start, value.len);
-    let none = walk::terms::no_number();
-    put_row(s, at, len, kind, v.id, x, none, 0, walk::note(n, x), t)
+    let x = Some(walk::terms::integer_at(s, at + v.value.start, v.value.len));
+    put_row(s, at, len, kind, v.id, x, None, 0, n.note(x), t)
 }
 
 // The default: a row without numbers.
@@ -65,77 +63,71 @@ fn put_other(s: &[u8], at: usize, len: usize, x: TagOther, n: Walk, t: &mut [u64
     ensures { Goes (other_items s.now at len x) s.now (at + len) n result
         (lend Table.tags t.old) (lend Table.tags t.new) }
 {
-    let none = walk::terms::no_number();
-    put_row(s, at, len, 3, x.id, none, none, 0, n, t)
+    put_row(s, at, len, TagKind::Other, x.id, None, None, 0, n, t)
 }
 
-// One value inside a range's braces.
-fn put_inner(s: &[u8], at: usize, m: TagMatch, n: Walk, t: &mut [u64]) -> Walk
-    requires { Ready value_form s.now at m n }
-    ensures { GoesOne value_form s.now at m n result (lend Table.tags t.old) (lend Table.tags t.new) }
-{
-    let end = m.at;
-    let len = grammar::taken(end);
-    let tag = m.tag;
-    match tag {
-        Tag::Value(v) => put_value(s, at, len, 4, v, n, t),
-        Tag::Range(_) => n,
-        Tag::Other(_) => n,
+// The values inside a range's braces, and the table of their rows.
+#[derive(Drop)]
+struct ValueRows<'a> {
+    t: &'a mut [u64],
+}
+
+impl Items for ValueRows<'_> {
+    type Item = Tag;
+
+    ghost form = { value_form };
+
+    ghost tables = { λ x. lend Table.tags x.t.now };
+
+    ghost slices = { λ x. slice_of x.t ∷ [] };
+
+    fn matched(s: &[u8]) -> Matched<Tag>
+        ensures { value_form.Answered s.now result }
+    {
+        tags::enum_value(s)
+    }
+
+    // A value's row; no other tag has one there.
+    fn put(&mut self, s: &[u8], at: usize, item: Matched<Tag>, n: Walk) -> Walk
+        requires { Ready value_form s.now at item n }
+        ensures goes { GoesOne value_form s.now at item n result
+            (lend Table.tags self.old.t.now) (lend Table.tags self.new.t.now) }
+        ensures kept { slice_of self.new.t ≡ slice_of self.old.t }
+    {
+        let len = item.at.taken();
+        match item.value {
+            Tag::Value(v) => put_value(s, at, len, TagKind::ValueInRange, v, n, self.t),
+            Tag::Range(_) | Tag::Other(_) => n,
+        }
     }
 }
 
 // The values inside a range's braces from `at` on, whose first one is handed on.
 // Rust: parse_enum_value_list_opt.
-fn put_values(s: &[u8], at: usize, first: TagMatch, n: Walk, t: &mut [u64]) -> Walk
+fn put_values(s: &[u8], at: usize, first: Matched<Tag>, n: Walk, t: &mut [u64]) -> Walk
     requires { Ready value_form s.now at first n }
     ensures { GoesAll value_form s.now at n result (lend Table.tags t.old) (lend Table.tags t.new) }
 {
-    let mut i = at;
-    let mut m = n;
-    let mut c = first;
-    loop {
-        m = put_inner(s, i, c, m, t);
-        let item = c.at;
-        let turn = walk::turn_behind(s, i, item);
-        if turn.more {} else {
-            return m;
-        }
-        i = turn.next;
-        c = tags::enum_value(&s[i..]);
-        let next = c.at;
-        let there = grammar::took(next);
-        if there {} else {
-            return m;
-        }
-    }
+    put_items(&mut ValueRows { t }, s, at, first, n).walk
 }
 
 // How many rows the values from `at` on have. Only a walk that writes asks: one that counts meets them but once.
-fn count_values(s: &[u8], at: usize, first: TagMatch, n: Walk, t: &mut [u64]) -> usize
+fn count_values(s: &[u8], at: usize, first: Matched<Tag>, n: Walk, t: &mut [u64]) -> usize
     requires { Ready value_form s.now at first n }
     ensures { Counted s.now at n result t.old t.new }
 {
-    let door = n.door;
-    let Door::Write = door else {
+    let Door::Write = n.door else {
         return 0;
     };
-    let m = put_values(s, at, first, walk::counting(n), t);
-    walk::counted(m, walk::TAGS) - walk::counted(n, walk::TAGS)
+    let m = put_values(s, at, first, n.counting(), t);
+    m.counted(walk::Table::Tags) - n.counted(walk::Table::Tags)
 }
 
 // The walk n, whose place is p.
 fn back(n: Walk, p: SourceLocation) -> Walk
     ensures { result ≡ placed p n }
 {
-    let door = n.door;
-    let counts = n.counts;
-    Walk {
-        door,
-        counts,
-        place: n.place,
-        reason: n.reason,
-        here: p,
-    }
+    Walk { here: p, ..n }
 }
 
 // A range: its row says how many rows follow it, so they are counted first. The walk goes to its end only for its row.
@@ -145,66 +137,62 @@ fn put_range(s: &[u8], at: usize, len: usize, x: TagRange, n: Walk, t: &mut [u64
     ensures { Goes (range_items s.now at len x) s.now (at + len) n result
         (lend Table.tags t.old) (lend Table.tags t.new) }
 {
-    let low = x.start;
-    let high = x.end;
-    let v = walk::terms::integer_at(s, at + low.start, low.len);
-    let e = walk::terms::integer_at(s, at + high.start, high.len);
-    let m = walk::note(walk::note(n, v), e);
-    let list = x.tags;
-    let Part::Here(g) = list else {
-        return put_row(s, at, len, 2, x.id, v, e, 0, m, t);
+    let v = Some(walk::terms::integer_at(s, at + x.start.start, x.start.len));
+    let e = Some(walk::terms::integer_at(s, at + x.end.start, x.end.len));
+    let m = n.note(v).note(e);
+    let Some(g) = x.tags else {
+        return put_row(s, at, len, TagKind::Range, x.id, v, e, 0, m, t);
     };
     let i = at + g.start;
     let first = tags::enum_value(&s[i..]);
     let inner = count_values(s, i, first, m, t);
-    let r = put_row(s, at, len, 2, x.id, v, e, inner, m, t);
+    let r = put_row(s, at, len, TagKind::Range, x.id, v, e, inner, m, t);
     put_values(s, i, first, back(r, m.here), t)
 }
 
-// One tag of an enum, by its kind.
-// Rust: parse_enum_tag.
-fn put_one(s: &[u8], at: usize, m: TagMatch, n: Walk, t: &mut [u64]) -> Walk
-    requires { Ready tag_form s.now at m n }
-    ensures { GoesOne tag_form s.now at m n result (lend Table.tags t.old) (lend Table.tags t.new) }
-{
-    let end = m.at;
-    let len = grammar::taken(end);
-    let tag = m.tag;
-    match tag {
-        Tag::Value(v) => put_value(s, at, len, 1, v, n, t),
-        Tag::Range(x) => put_range(s, at, len, x, n, t),
-        Tag::Other(x) => put_other(s, at, len, x, n, t),
+// The tags of an enum, and the table of their rows.
+#[derive(Drop)]
+struct TagRows<'a> {
+    t: &'a mut [u64],
+}
+
+impl Items for TagRows<'_> {
+    type Item = Tag;
+
+    ghost form = { tag_form };
+
+    ghost tables = { λ x. lend Table.tags x.t.now };
+
+    ghost slices = { λ x. slice_of x.t ∷ [] };
+
+    fn matched(s: &[u8]) -> Matched<Tag>
+        ensures { tag_form.Answered s.now result }
+    {
+        tags::enum_tag(s)
+    }
+
+    // One tag, by its kind.
+    // Rust: parse_enum_tag.
+    fn put(&mut self, s: &[u8], at: usize, item: Matched<Tag>, n: Walk) -> Walk
+        requires { Ready tag_form s.now at item n }
+        ensures goes { GoesOne tag_form s.now at item n result
+            (lend Table.tags self.old.t.now) (lend Table.tags self.new.t.now) }
+        ensures kept { slice_of self.new.t ≡ slice_of self.old.t }
+    {
+        let len = item.at.taken();
+        match item.value {
+            Tag::Value(v) => put_value(s, at, len, TagKind::Value, v, n, self.t),
+            Tag::Range(x) => put_range(s, at, len, x, n, self.t),
+            Tag::Other(x) => put_other(s, at, len, x, n, self.t),
+        }
     }
 }
 
 // The tags of an enum from `at` on, whose first one is handed on.
 // Rust: parse_enum_tag_list.
-pub fn put_tags(s: &[u8], at: usize, first: TagMatch, n: Walk, t: &mut [u64]) -> Walked
+pub fn put_tags(s: &[u8], at: usize, first: Matched<Tag>, n: Walk, t: &mut [u64]) -> Walked
     requires { Ready tag_form s.now at first n }
     ensures { GoesList tag_form s.now at n result (lend Table.tags t.old) (lend Table.tags t.new) }
 {
-    let mut i = at;
-    let mut m = n;
-    let mut c = first;
-    loop {
-        m = put_one(s, i, c, m, t);
-        let item = c.at;
-        let turn = walk::turn_behind(s, i, item);
-        if turn.more {} else {
-            return Walked {
-                walk: m,
-                end: turn.end,
-            };
-        }
-        i = turn.next;
-        c = tags::enum_tag(&s[i..]);
-        let next = c.at;
-        let there = grammar::took(next);
-        if there {} else {
-            return Walked {
-                walk: m,
-                end: turn.end,
-            };
-        }
-    }
+    put_items(&mut TagRows { t }, s, at, first, n)
 }

@@ -46,13 +46,6 @@ lend_is Table.comments Table.tags ws l = refl
 lend_is Table.comments Table.constraints ws l = refl
 lend_is Table.comments Table.comments ws l = refl
 
-slot_small : (t : Table) → slot t < 5
-slot_small Table.declarations = omega arith
-slot_small Table.fields = omega arith
-slot_small Table.tags = omega arith
-slot_small Table.constraints = omega arith
-slot_small Table.comments = omega arith
-
 lent_own : (u : Table) (ws : List ℕ) (l : Lent) → lent u (lend u ws l) ≡ ws
 lent_own Table.declarations ws l = refl
 lent_own Table.fields ws l = refl
@@ -85,7 +78,7 @@ same_table t u e = sym (table_is u) ∙ ap table_at (sym (same_slot t u e)) ∙ 
 
 -- what `put` asks: there is a byte up to k for one row more of the table
 pub put_asks : (u : Table) {src : List ℕ} {k : ℕ} {n : Walk} → At src k n → counted u n < k → length src < 2 ^ 64 → Knows n (slot u)
-put_asks u {src} {k} {n} h e s = record { sized = h.sized; slot = slot_small u; room = omega (arith, e, h.within, s) }
+put_asks u {src} {k} {n} h e s = record { sized = h.sized; room = omega (arith, e, h.within, s) }
 
 module _ (u : Table) {ws : List ℕ} {n r : Walk} {t t' : List ℕ} (p : Put (slot u) ws n r t t') where
   -- ws' are the words of the row, which only a walk that writes makes

@@ -1,11 +1,9 @@
 -- The spans of an answer lie inside its match, because the nodes that they draw do.
-use Rattle.std.specs.Prelude.{ℕ, ◌+◌, ◌≤◌}
+use Rattle.std.specs.Prelude.{ℕ, ◌+◌, ◌≤◌, Option, None, Some}
 use Rattle.std.proofs.Common.{arith}
 use Rattle.meaning.specs.Rules.{Rule}
 use Rattle.grammar.specs.Limits.{Limits, limits_left, limits_right}
 use Rattle.spans.specs.declared.Span.{Span}
-use Rattle.spans.specs.declared.Part.{Part}
-use Rattle.spans.specs.declared.Part.TheVariants.{Absent, Here}
 use Rattle.spans.specs.declared.Operand.{Operand}
 use Rattle.spans.specs.declared.Operand.TheVariants.{Identifier, Integer}
 use Rattle.spans.specs.declared.Constraint.{Constraint}
@@ -24,13 +22,13 @@ wider_operand : (m n : ℕ) (v : Operand) → m ≤ n → InsideOperand m v → 
 wider_operand m n (Identifier s) e h = omega (arith, e, h)
 wider_operand m n (Integer s) e h = omega (arith, e, h)
 
-pub part_inside : (k : Rule) (o n : ℕ) (v : Part) → Limits o (o + n) (draw_part k o v) → InsidePart n v
-part_inside k o n Absent h = tt
-part_inside k o n (Here s) h = span_inside k o n s h
+pub part_inside : (k : Rule) (o n : ℕ) (v : Option Span) → Limits o (o + n) (draw_part k o v) → InsidePart n v
+part_inside k o n None h = tt
+part_inside k o n (Some s) h = span_inside k o n s h
 
-pub wider_part : (m n : ℕ) (v : Part) → m ≤ n → InsidePart m v → InsidePart n v
-wider_part m n Absent e h = tt
-wider_part m n (Here s) e h = omega (arith, e, h)
+pub wider_part : (m n : ℕ) (v : Option Span) → m ≤ n → InsidePart m v → InsidePart n v
+wider_part m n None e h = tt
+wider_part m n (Some s) e h = omega (arith, e, h)
 
 -- a constraint's spans
 pub record InsideConstraint (n : ℕ) (c : Constraint) : Type 0 where

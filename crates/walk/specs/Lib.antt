@@ -14,3 +14,5 @@ pub mod Lists
 pub mod PartLists
 pub mod Sounds
 pub mod Settled
+pub mod Kinds
+pub mod Lending

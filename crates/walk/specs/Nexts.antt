@@ -1,7 +1,8 @@
 -- The next item of a list, where the walk has come to the end of one.
-use Rattle.std.specs.Prelude.{ℕ, ◌+◌, ◌≤◌, ◌<◌, ◌≡◌, refl, List, true, false, length, drop}
+use Rattle.std.specs.Prelude.{ℕ, ◌+◌, ◌≤◌, ◌<◌, ◌≡◌, refl, List, Option, Some, None, true, false, length, drop}
 use Rattle.std.proofs.Common.{arith, ap, ap₂, subst, sym, ◌∙◌, drop-drop}
 use Rattle.meaning.specs.declared.Match.{Match}
+use Rattle.meaning.specs.declared.Match.TheVariants.{Missed, Took}
 use Rattle.meaning.specs.Peg.{Peg, run, bytewise, hit, taken}
 use Rattle.meaning.specs.Forest.{Forest, ◌⊕◌, nodes}
 use Rattle.meaning.specs.Pdl.{skip}
@@ -16,11 +17,23 @@ use Rattle.walk.specs.Turns.{comma, rest, past, Over, next_item, next_past, no_c
 abbrev comma_at : List ℕ → ℕ → Match
 comma_at src j = run (bytewise comma) (drop j src)
 
--- behind an item that matched at i as m: where it ends, whether a comma follows, and where another item would stand
+-- behind a comma at j another item would stand; where none is, none would
+abbrev pub next_from : ℕ → Match → Option ℕ
+next_from j (Missed f) = None
+next_from j (Took n f) = Some (j + n)
+
+-- behind an item that matched at i as m: where it ends, and where another item would stand, if a comma follows
 pub record Turned (src : List ℕ) (i : ℕ) (m : Match) (t : Turn) : Type 0 where
   pub end : t.end ≡ i + taken m
-  pub more : t.more ≡ hit (comma_at src t.end)
-  pub next : t.next ≡ t.end + taken (comma_at src t.end)
+  pub next : t.next ≡ next_from t.end (comma_at src t.end)
+
+next_none : (j : ℕ) (k : Match) → next_from j k ≡ None → hit k ≡ false
+next_none j (Missed f) q = refl
+next_none j (Took n f) q = cc
+
+next_some : (j : ℕ) (k : Match) {e : ℕ} → next_from j k ≡ Some e → (hit k ≡ true) × (e ≡ j + taken k)
+next_some j (Missed f) q = cc
+next_some j (Took n f) q = (refl, cc)
 
 -- x matches as r behind a comma that follows j, at e; w are its nodes
 pub record Next (x : Peg) (src : List ℕ) (j e : ℕ) (r : Match) (w : ℕ → Forest) : Type 0 where
@@ -63,6 +76,12 @@ module _ (x : Peg) (src : List ℕ) (j : ℕ) where
         }
 
 -- ---- the code's turn behind an item that ends in the source
-module _ {src : List ℕ} {i : ℕ} {m : Match} {t : Turn} (h : Turned src i m t) (within : i + taken m ≤ length src) where
-  pub turn_next_in : t.next ≤ length src
-  turn_next_in = omega (arith, h.next, run_inside src t.end comma (omega (arith, h.end, within)))
+module _ {src : List ℕ} {i : ℕ} {m : Match} {t : Turn} (h : Turned src i m t) where
+  pub turn_last : t.next ≡ None → hit (comma_at src t.end) ≡ false
+  turn_last q = next_none t.end (comma_at src t.end) (sym h.next ∙ q)
+
+  pub turn_goes : {e : ℕ} → t.next ≡ Some e → (hit (comma_at src t.end) ≡ true) × (e ≡ t.end + taken (comma_at src t.end))
+  turn_goes q = next_some t.end (comma_at src t.end) (sym h.next ∙ q)
+
+  pub turn_next_in : i + taken m ≤ length src → {e : ℕ} → t.next ≡ Some e → e ≤ length src
+  turn_next_in within q = omega (arith, (turn_goes q).1, run_inside src t.end comma (omega (arith, h.end, within)))

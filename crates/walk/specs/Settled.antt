@@ -1,24 +1,29 @@
 -- What the records of the walk settle, from the same state over the same items: whether it writes, its counts, its first bad
 -- integer, and every word that is lent. They leave the place that it knows: `Came` settles it for a walk that writes, before
 -- each row; a walk that counts writes none, and nobody asks it for its place.
-use Rattle.std.specs.Prelude.{ℕ, zero, suc, ◌+◌, ◌<◌, ◌≡◌, refl, List, Bool, true, false, length, get_or, drop, eqb}
+use Rattle.std.specs.Prelude.{ℕ, zero, suc, ◌<◌, ◌≡◌, refl, List, Option, None, Some, Err, Bool, true, false, length, get_or, drop, eqb}
 use Rattle.std.proofs.Common.{arith, ap, ap₂, sym, ◌∙◌, eqb-true, ext_get_or}
 use Rattle.std.proofs.lemmas.Bool.{eqb-false}
 use Rattle.meaning.specs.declared.Match.{Match}
 use Rattle.meaning.specs.declared.SourceLocation.{SourceLocation}
-use Rattle.meaning.specs.Peg.{run, bytewise, hit, taken}
+use Rattle.meaning.specs.Peg.{run, bytewise}
 use Rattle.meaning.specs.Tables.{Table, Item, Bad, Lent, lent}
 use Rattle.walk.specs.declared.Door.{Door}
 use Rattle.walk.specs.declared.Door.TheVariants.{Write}
 use Rattle.walk.specs.declared.Walk.{Walk}
 use Rattle.walk.specs.declared.Walked.{Walked}
 use Rattle.walk.specs.declared.Turn.{Turn}
-use Rattle.walk.specs.State.{slot, counted, bad_of, Wrote, Came, Put}
+use Rattle.walk.specs.declared.Unconverted.{Unconverted}
+use Rattle.meaning.specs.Choice.{pick}
+use Rattle.meaning.specs.Convert.{reason_of}
+use Rattle.meaning.specs.declared.ConversionError.{ConversionError}
+use Rattle.meaning.specs.declared.ConversionError.TheVariants.{Empty, BadDigit, TooLarge}
+use Rattle.walk.specs.State.{slot, counted, bad_as, bad_of, Wrote, Came, Put}
 use Rattle.walk.specs.Steps.{tally, tally_is}
 use Rattle.walk.specs.Doors.{stood}
 use Rattle.walk.specs.Totals.{Tabled}
 use Rattle.walk.specs.Turns.{comma}
-use Rattle.walk.specs.Nexts.{Turned}
+use Rattle.walk.specs.Nexts.{Turned, next_from}
 use Rattle.walk.specs.Lists.{Form, GoesAll, GoesList}
 
 -- two walks that differ in nothing but the place that they know, and that leave the same words
@@ -28,10 +33,29 @@ pub record Alike (r s : Walk) (b c : Lent → Lent) : Type 0 where
   pub bad : bad_of r ≡ bad_of s
   pub words : (l : Lent) (t : Table) → lent t (b l) ≡ lent t (c l)
 
+-- ---- what the meaning says of a bad integer settles it
+abbrev pub error_of : ℕ → ConversionError
+error_of n = pick (eqb n 1) Empty (pick (eqb n 2) BadDigit TooLarge)
+
+abbrev bad_back : Bad → Option Unconverted
+bad_back b = pick (eqb b.reason 0) None (Some (record { place = b.place; error = error_of b.reason }))
+
+bad_told : (x : Option Unconverted) → bad_back (bad_as x) ≡ x
+bad_told None = refl
+bad_told (Some x) = go x.error
+  where
+    go : (e : ConversionError) → bad_back (record { place = x.place; reason = reason_of (Err e) }) ≡ Some (record { place = x.place; error = e })
+    go Empty = refl
+    go BadDigit = refl
+    go TooLarge = refl
+
+same_bad : {x y : Option Unconverted} → bad_as x ≡ bad_as y → x ≡ y
+same_bad {x} {y} e = sym (bad_told x) ∙ ap bad_back e ∙ bad_told y
+
 same_walk : {r s : Walk} → r.door ≡ s.door → r.counts ≡ s.counts → bad_of r ≡ bad_of s → r.here ≡ s.here → r ≡ s
 same_walk {r} {s} d c b h =
-    ap₂ (λ (x : Door) (ks : List ℕ). record { door = x; counts = ks; place = r.place; reason = r.reason; here = r.here }) d c
-    ∙ ap₂ (λ (x : Bad) (p : SourceLocation). record { door = s.door; counts = s.counts; place = x.place; reason = x.reason; here = p }) b h
+    ap₂ (λ (x : Door) (ks : List ℕ). record { door = x; counts = ks; bad = r.bad; here = r.here }) d c
+    ∙ ap₂ (λ (x : Option Unconverted) (p : SourceLocation). record { door = s.door; counts = s.counts; bad = x; here = p }) (same_bad b) h
 
 -- five counts are those of the tables
 five_counts : (a b : List ℕ) → length a ≡ 5 → length b ≡ 5 → ((t : Table) → get_or a (slot t) 0 ≡ get_or b (slot t) 0) → a ≡ b
@@ -86,10 +110,8 @@ tabled_settled x y =
 pub turned_settled : {src : List ℕ} {i : ℕ} {m : Match} {t u : Turn} → Turned src i m t → Turned src i m u → t ≡ u
 turned_settled {src} {t = t} {u = u} x y =
     let e : t.end ≡ u.end = x.end ∙ sym y.end in
-    let c : run (bytewise comma) (drop t.end src) ≡ run (bytewise comma) (drop u.end src)
-    = ap (λ (j : ℕ). run (bytewise comma) (drop j src)) e in
-    ap₂ (λ (j : ℕ) (b : Bool). record { end = j; more = b; next = t.next }) e (x.more ∙ ap hit c ∙ sym y.more)
-    ∙ ap (λ (k : ℕ). record { end = u.end; more = u.more; next = k }) (x.next ∙ ap₂ (λ (j : ℕ) (z : Match). j + taken z) e c ∙ sym y.next)
+    ap₂ (λ (j : ℕ) (k : Option ℕ). record { end = j; next = k }) e
+    (x.next ∙ ap (λ (j : ℕ). next_from j (run (bytewise comma) (drop j src))) e ∙ sym y.next)
 
 module _ {A : Type 0} {z : Form A} {src : List ℕ} {at : ℕ} {n : Walk} {a b c : Lent → Lent} (e : length n.counts ≡ 5) where
   pub goes_all_settled : {r s : Walk} → GoesAll z src at n r a b → GoesAll z src at n s a c → Alike r s b c

@@ -1,12 +1,17 @@
 -- The walk's state, and what the items that it meets do to it and to the tables lent to it.
-use Rattle.std.specs.Prelude.{ℕ, ◌+◌, ◌^◌, ◌≤◌, ◌<◌, ◌≡◌, List, [], ◌∷◌, length, get_or, eqb}
+use Rattle.std.specs.Prelude.{ℕ, ◌+◌, ◌^◌, ◌≤◌, ◌<◌, ◌≡◌, List, [], ◌∷◌, length, get_or, eqb, Option, None, Some, Result, Ok, Err}
+use Rattle.std.specs.Option.{option_or}
 use Rattle.meaning.specs.declared.SourceLocation.{SourceLocation}
 use Rattle.meaning.specs.Choice.{pick}
 use Rattle.meaning.specs.Places.{place_at}
 use Rattle.meaning.specs.Tables.{Table, size, Item, int, row, rows_of, count, Bad, puts, Lent, lent}
 use Rattle.walk.specs.declared.Door.{Door}
 use Rattle.walk.specs.declared.Door.TheVariants.{Count, Write}
+use Rattle.meaning.specs.declared.ConversionError.{ConversionError}
+use Rattle.meaning.specs.Convert.{reason_of}
 use Rattle.walk.specs.declared.Walk.{Walk}
+use Rattle.walk.specs.declared.Number.{Number}
+use Rattle.walk.specs.declared.Unconverted.{Unconverted}
 
 -- ---- the counts, by table
 abbrev pub slot : Table → ℕ
@@ -21,11 +26,16 @@ counted t n = get_or n.counts (slot t) 0
 
 -- nothing done yet
 abbrev pub fresh : Door → Walk
-fresh d = record { door = d; counts = 0 ∷ 0 ∷ 0 ∷ 0 ∷ 0 ∷ []; place = 0; reason = 0; here = record { offset = 0; line = 0; column = 0 } }
+fresh d = record { door = d; counts = 0 ∷ 0 ∷ 0 ∷ 0 ∷ 0 ∷ []; bad = None; here = record { offset = 0; line = 0; column = 0 } }
 
 -- ---- the first bad integer stays
+-- what the meaning says of one
+abbrev pub bad_as : Option Unconverted → Bad
+bad_as None = record { place = 0; reason = 0 }
+bad_as (Some x) = record { place = x.place; reason = reason_of (Err x.error) }
+
 abbrev pub bad_of : Walk → Bad
-bad_of n = record { place = n.place; reason = n.reason }
+bad_of n = bad_as n.bad
 
 unfoldable pub worse : ℕ → ℕ → Bad → Bad
 worse p r b = pick (eqb b.reason 0) (pick (eqb r 0) b (record { place = p; reason = r })) b
@@ -35,18 +45,26 @@ bads [] b = b
 bads (int p r ∷ xs) b = bads xs (worse p r b)
 bads (row t ws ∷ xs) b = bads xs b
 
--- the state after an integer with this place and reason
-abbrev pub after_integer : ℕ → ℕ → Walk → Walk
-after_integer p r n =
-    record { door = n.door; counts = n.counts; place = (worse p r (bad_of n)).place; reason = (worse p r (bad_of n)).reason; here = n.here }
+-- what is bad about an integer that stands at p
+abbrev pub bad_value : ℕ → Result ℕ ConversionError → Option Unconverted
+bad_value p (Ok v) = None
+bad_value p (Err e) = Some (record { place = p; error = e })
+
+abbrev pub bad_number : Option Number → Option Unconverted
+bad_number None = None
+bad_number (Some x) = bad_value x.place x.value
+
+-- the state after an integer, if there is one
+abbrev pub after_number : Option Number → Walk → Walk
+after_number x n = record { door = n.door; counts = n.counts; bad = option_or n.bad (bad_number x); here = n.here }
 
 -- the same walk, which only counts
 abbrev pub counting : Walk → Walk
-counting n = record { door = Count; counts = n.counts; place = n.place; reason = n.reason; here = n.here }
+counting n = record { door = Count; counts = n.counts; bad = n.bad; here = n.here }
 
 -- the same walk at another place
 abbrev pub placed : SourceLocation → Walk → Walk
-placed p n = record { door = n.door; counts = n.counts; place = n.place; reason = n.reason; here = p }
+placed p n = record { door = n.door; counts = n.counts; bad = n.bad; here = p }
 
 -- ---- what the door does with rows that come to it from row k on
 unfoldable pub left : Door → ℕ → ℕ → List (List ℕ) → List ℕ → List ℕ
@@ -107,7 +125,6 @@ table_at k =
 
 pub record Knows (n : Walk) (k : ℕ) : Type 0 where
   pub sized : length n.counts ≡ 5
-  pub slot : k < 5
   pub room : get_or n.counts k 0 + 1 < 2 ^ 64
 
 pub record Put (k : ℕ) (ws : List ℕ) (n r : Walk) (t t' : List ℕ) : Type 0 where

@@ -1,5 +1,6 @@
 -- Laws of the walk's state: what items do one after another, a number, a step to another offset.
-use Rattle.std.specs.Prelude.{ℕ, zero, suc, ◌+◌, ◌≤◌, ◌≡◌, Bool, length}
+use Rattle.std.specs.Prelude.{ℕ, zero, suc, ◌+◌, ◌≤◌, ◌≡◌, Bool, length, Option, None, Some, Result, Ok, Err}
+use Rattle.std.specs.Option.{option_or}
 use Rattle.std.proofs.Common.{arith, ap₂, subst, sym, ◌∙◌, length-append}
 use Rattle.std.proofs.Math.Path.{refl, ap}
 use mathlib.Core.List.{List, [], ◌∷◌, ◌++◌}
@@ -13,8 +14,12 @@ use Rattle.walk.specs.declared.Door.{Door}
 use Rattle.walk.specs.declared.Door.TheVariants.{Count, Write}
 use Rattle.walk.specs.declared.Walk.{Walk}
 use Rattle.walk.specs.declared.Number.{Number}
+use Rattle.walk.specs.declared.Unconverted.{Unconverted}
+use Rattle.meaning.specs.declared.ConversionError.{ConversionError}
+use Rattle.meaning.specs.declared.ConversionError.TheVariants.{Empty, BadDigit, TooLarge}
+use Rattle.meaning.specs.Convert.{reason_of}
 use Rattle.walk.specs.Terms.{integer_items}
-use Rattle.walk.specs.State.{counted, bad_of, worse, bads, after_integer, counting, left, Wrote, Near, At, Goes, Tallied}
+use Rattle.walk.specs.State.{counted, bad_as, bad_of, worse, bads, bad_value, bad_number, after_number, counting, left, Wrote, Near, At, Goes, Tallied}
 
 -- ---- items one after another
 rows_append : (t : Table) (xs ys : List Item) → rows_of t (xs ++ ys) ≡ rows_of t xs ++ rows_of t ys
@@ -106,50 +111,53 @@ pub goes_on : {xs : List Item} {src : List ℕ} {j k : ℕ} {n r : Walk} {a b : 
 goes_on e w h = record { wrote = h.wrote; at = at_on e w h.at }
 
 -- ---- a number
--- one that is not there is not bad
-pub record Sound (x : Number) : Type 0 where
-  pub absent : eqb x.found 1 ≡ false → x.reason ≡ 0
+-- the first bad one stays
+number_bad : (x : Option Number) (b : Option Unconverted) → bad_as (option_or b (bad_number x)) ≡ bads (integer_items x) (bad_as b)
+unfolding bads worse
+number_bad None None = refl
+number_bad None (Some b) = refl
+number_bad (Some x) None = go x.value
+  where
+    go : (v : Result ℕ ConversionError) → bad_as (bad_value x.place v) ≡ worse x.place (reason_of v) (bad_as None)
+    go (Ok v) = refl
+    go (Err Empty) = refl
+    go (Err BadDigit) = refl
+    go (Err TooLarge) = refl
+number_bad (Some x) (Some b) = go b.error
+  where
+    told : ConversionError → Bad
+    told e = record { place = b.place; reason = reason_of (Err e) }
 
-module _ (t : Table) (x : Number) where
-  number_rows : rows_of t (integer_items x) ≡ []
+    go : (e : ConversionError) → told e ≡ worse x.place (reason_of x.value) (told e)
+    go Empty = refl
+    go BadDigit = refl
+    go TooLarge = refl
+
+module _ (t : Table) where
+  number_rows : (x : Option Number) → rows_of t (integer_items x) ≡ []
   unfolding rows_of
-  number_rows = go (eqb x.found 1)
-    where
-      go : (f : Bool) → rows_of t (pick f (int x.place x.reason ∷ []) []) ≡ []
-      go true = refl
-      go false = refl
+  number_rows None = refl
+  number_rows (Some x) = refl
 
-  pub no_rows : count t (integer_items x) ≡ 0
-  no_rows = ap length number_rows
+  pub no_rows : (x : Option Number) → count t (integer_items x) ≡ 0
+  no_rows x = ap length (number_rows x)
 
-module _ {x : Number} (ok : Sound x) where
-  number_bad : (b : Bad) → worse x.place x.reason b ≡ bads (integer_items x) b
-  unfolding bads worse
-  number_bad b = go (eqb x.found 1) refl
-    where
-      go : (f : Bool) → eqb x.found 1 ≡ f → worse x.place x.reason b ≡ bads (pick f (int x.place x.reason ∷ []) []) b
-      go true e = refl
-      go false e = ap (λ (r : ℕ). worse x.place r b) (ok.absent e) ∙ good (eqb b.reason 0)
-        where
-          good : (z : Bool) → pick z b b ≡ b
-          good true = refl
-          good false = refl
-
-  note_wrote : (n : Walk) (a : Lent → Lent) → Wrote (integer_items x) n (after_integer x.place x.reason n) a a
+module _ (x : Option Number) where
+  note_wrote : (n : Walk) (a : Lent → Lent) → Wrote (integer_items x) n (after_number x n) a a
   note_wrote n a =
       record {
         door = refl;
         sized = refl;
         counts = λ t. omega (arith, no_rows t x);
-        bad = number_bad (bad_of n);
+        bad = number_bad x n.bad;
         words = λ l t.
             left_none n.door (size t) (counted t n) (lent t (a l))
             ∙ ap (λ (rs : List (List ℕ)). left n.door (size t) (counted t n) rs (lent t (a l))) (sym (number_rows t x));
       }
 
   -- it moves nothing: m is the state after it
-  pub integer_goes : {src : List ℕ} {k : ℕ} {n m : Walk} (a : Lent → Lent) → m ≡ after_integer x.place x.reason n
-      → At src k n → Goes (integer_items x) src k n m a a
+  pub integer_goes : {src : List ℕ} {k : ℕ} {n m : Walk} (a : Lent → Lent) → m ≡ after_number x n → At src k n
+      → Goes (integer_items x) src k n m a a
   integer_goes {src} {k} {n} {m} a e h =
       subst (λ (z : Walk). Goes (integer_items x) src k n z a a) (sym e)
       (record { wrote = note_wrote n a; at = record { within = h.within; sized = h.sized; few = h.few; near = h.near } })

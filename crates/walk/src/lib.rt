@@ -4,16 +4,23 @@
 ghost use Rattle.std.specs.Prelude.{◌≡◌, ◌+◌, ◌≤◌, ◌<◌, length, get_or, [], ◌∷◌};
 ghost use Rattle.grammar.specs.Matching.{Reads};
 ghost use Rattle.meaning.specs.Peg.{taken};
+ghost use Rattle.ast.specs.Tables.{meant};
 ghost use Rattle.walk.specs.Turns.{comma};
 ghost use Rattle.walk.specs.Nexts.{Turned};
-ghost use Rattle.walk.specs.State.{fresh, after_integer, counting, left, Knows, Put, At, Came};
+ghost use Rattle.walk.specs.State.{slot, counted, fresh, bad_number, after_number, counting, left, Knows, Put, At, Came};
 
+use crate::kinds::FieldKind;
 use lexis::blanks::then_blanks;
 use lexis::texts::then_literal;
-use meaning::{Match, SourceLocation};
+use meaning::{ConversionError, Match, SourceLocation};
 
+pub mod kinds;
+pub mod lists;
 pub mod rows;
+pub mod tables;
 pub mod terms;
+
+pub use ast::tables::Table;
 
 // A comma with the blanks around it.
 fn comma(s: &[u8]) -> Match
@@ -23,12 +30,11 @@ fn comma(s: &[u8]) -> Match
     then_blanks(s, then_literal(s, then_blanks(s, start), b","))
 }
 
-// Behind an item of a list: where it ends, whether a comma follows, and where another item would stand.
+// Behind an item of a list: where it ends, and where another item would stand, if a comma follows.
 #[derive(Clone, Copy)]
 pub struct Turn {
     pub end: usize,
-    pub more: bool,
-    pub next: usize,
+    pub next: Option<usize>,
 }
 
 // The turn behind the item that matched at i.
@@ -36,41 +42,38 @@ pub fn turn_behind(s: &[u8], i: usize, item: Match) -> Turn
     requires { i + taken item ≤ length s.now }
     ensures { Turned s.now i item result }
 {
-    let end = i + grammar::taken(item);
-    let comma = comma(&s[end..]);
-    Turn {
-        end,
-        more: grammar::took(comma),
-        next: end + grammar::taken(comma),
+    let end = i + item.taken();
+    match comma(&s[end..]) {
+        Match::Missed(_) => Turn { end, next: None },
+        Match::Took(n, _) => Turn {
+            end,
+            next: Some(end + n),
+        },
     }
 }
 
 // What is done with a row: it is counted, or it is counted and written.
+// It stays an enum, and no closure that writes: the state keeps it, which is copied, and `Wrote` goes by its cases.
 #[derive(Clone, Copy)]
 pub enum Door {
     Count,
     Write,
 }
 
-// The tables' places among the counts.
-pub const DECLARATIONS: usize = 0;
+// An integer of the source that does not convert: where it starts, and why.
+#[derive(Clone, Copy)]
+pub struct Unconverted {
+    pub place: usize,
+    pub error: ConversionError,
+}
 
-pub const FIELDS: usize = 1;
-
-pub const TAGS: usize = 2;
-
-pub const CONSTRAINTS: usize = 3;
-
-pub const COMMENTS: usize = 4;
-
-// What is done with rows, how many each table has, the first integer that did not convert (its place and its reason, 0 where
-// all did), and the place that the walk has come to, if it writes.
+// What is done with rows, how many each table has, the first integer that did not convert, and the place that the walk has come
+// to, if it writes.
 #[derive(Clone, Copy)]
 pub struct Walk {
     pub door: Door,
     pub counts: [usize; 5],
-    pub place: usize,
-    pub reason: u64,
+    pub bad: Option<Unconverted>,
     pub here: SourceLocation,
 }
 
@@ -81,30 +84,11 @@ pub struct Walked {
     pub end: usize,
 }
 
-// The state before the first item.
-pub fn nothing(door: Door) -> Walk
-    ensures { result ≡ fresh door }
-{
-    Walk {
-        door,
-        counts: [0; 5],
-        place: 0,
-        reason: 0,
-        here: SourceLocation {
-            offset: 0,
-            line: 0,
-            column: 0,
-        },
-    }
-}
-
-// An integer of the source: whether there is one, where it starts, why it does not convert (0: it does), what it says.
+// An integer of the source: where it starts, and what it says, or why it does not convert.
 #[derive(Clone, Copy)]
 pub struct Number {
-    pub found: u64,
     pub place: usize,
-    pub reason: u64,
-    pub value: u64,
+    pub value: Result<u64, ConversionError>,
 }
 
 // A name of the source, by offset and length.
@@ -117,107 +101,104 @@ pub struct Name {
 // The part of a field's row that its description settles.
 #[derive(Clone, Copy)]
 pub struct Described {
-    pub kind: u64,
+    pub kind: FieldKind,
     pub a: Name,
     pub b: Name,
     pub c: Name,
-    pub na: Number,
-    pub nb: Number,
+    pub na: Option<Number>,
+    pub nb: Option<Number>,
 }
 
-// The state after an integer: the first bad one stays.
-pub fn note(n: Walk, x: Number) -> Walk
-    ensures { result ≡ after_integer x.place x.reason n }
+// What is bad about an integer, if there is one that does not convert.
+fn bad_number(x: Option<Number>) -> Option<Unconverted>
+    ensures { result ≡ bad_number x }
 {
-    if n.reason != 0 {
-        return n;
-    }
-    if x.reason == 0 {
-        return n;
-    }
-    let door = n.door;
-    let counts = n.counts;
-    let here = n.here;
-    Walk {
-        door,
-        counts,
+    let x = x?;
+    let error = x.value.err()?;
+    Some(Unconverted {
         place: x.place,
-        reason: x.reason,
-        here,
-    }
+        error,
+    })
 }
 
 // What the door does with row k of a table.
+#[tactic(auto, unfolding(crate::specs::State::left, meaning::specs::Tables::puts))]
 fn pass(door: Door, k: usize, row: &[u64], t: &mut [u64])
     ensures { t.new ≡ left door (length row.now) k (row.now ∷ []) t.old }
 {
-    let Door::Write = door else {
-        return;
-    };
-    ast::put_row(t, k, row);
-}
-
-// A row comes to the door: it is counted, and written if the walk writes.
-pub fn put(n: Walk, table: usize, row: &[u64], t: &mut [u64]) -> Walk
-    requires { Knows n table }
-    ensures { Put table row.now n result t.old t.new }
-{
-    let door = n.door;
-    let mut counts = n.counts;
-    let k = counts[table];
-    counts[table] = k + 1;
-    pass(door, k, row, t);
-    let here = n.here;
-    Walk {
-        door,
-        counts,
-        place: n.place,
-        reason: n.reason,
-        here,
+    match door {
+        Door::Count => {}
+        Door::Write => ast::put_row(t, k, row),
     }
 }
 
-// How many rows of a table there are by now.
-pub fn counted(n: Walk, table: usize) -> usize
-    requires { table < 5 }
-    ensures { result ≡ get_or n.counts table 0 }
-{
-    let counts = n.counts;
-    counts[table]
-}
-
-// The same walk, which only counts.
-pub fn counting(n: Walk) -> Walk
-    ensures { result ≡ counting n }
-{
-    let counts = n.counts;
-    let here = n.here;
-    Walk {
-        door: Door::Count,
-        counts,
-        place: n.place,
-        reason: n.reason,
-        here,
+impl Walk {
+    // The state before the first item.
+    pub fn new(door: Door) -> Walk
+        ensures { result ≡ fresh door }
+    {
+        Walk {
+            door,
+            counts: [0; 5],
+            bad: None,
+            here: SourceLocation {
+                offset: 0,
+                line: 0,
+                column: 0,
+            },
+        }
     }
-}
 
-// The walk comes to an offset of the source. Its place is moved only if rows are written.
-pub fn to(s: &[u8], n: Walk, at: usize) -> Walk
-    requires { At s.now at n }
-    ensures { Came s.now at n result }
-{
-    let door = n.door;
-    let Door::Write = door else {
-        return n;
-    };
-    let counts = n.counts;
-    let p = n.here;
-    let here = text::move_to(s, p, at);
-    Walk {
-        door,
-        counts,
-        place: n.place,
-        reason: n.reason,
-        here,
+    // The state after an integer, if there is one: the first bad one stays.
+    pub fn note(self, x: Option<Number>) -> Walk
+        ensures { result ≡ after_number x self }
+    {
+        Walk {
+            bad: self.bad.or(bad_number(x)),
+            ..self
+        }
+    }
+
+    // A row comes to the door: it is counted, and written if the walk writes.
+    pub fn put(self, table: Table, row: &[u64], t: &mut [u64]) -> Walk
+        requires { Knows self (slot (meant table)) }
+        ensures { Put (slot (meant table)) row.now self result t.old t.new }
+    {
+        let mut counts = self.counts;
+        let k = counts[table as usize];
+        counts[table as usize] = k + 1;
+        pass(self.door, k, row, t);
+        Walk { counts, ..self }
+    }
+
+    // How many rows of a table there are by now.
+    pub fn counted(self, table: Table) -> usize
+        ensures { result ≡ counted (meant table) self }
+    {
+        self.counts[table as usize]
+    }
+
+    // The same walk, which only counts.
+    pub fn counting(self) -> Walk
+        ensures { result ≡ counting self }
+    {
+        Walk {
+            door: Door::Count,
+            ..self
+        }
+    }
+
+    // The walk comes to an offset of the source. Its place is moved only if rows are written.
+    pub fn to(self, s: &[u8], at: usize) -> Walk
+        requires { At s.now at self }
+        ensures { Came s.now at self result }
+    {
+        match self.door {
+            Door::Count => self,
+            Door::Write => Walk {
+                here: text::move_to(s, self.here, at),
+                ..self
+            },
+        }
     }
 }

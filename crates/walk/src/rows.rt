@@ -1,26 +1,38 @@
 // Rows from names and numbers, word by word.
 ghost use Rattle.std.specs.Prelude.{◌≡◌};
 ghost use Rattle.meaning.specs.Tables.{first_of};
-ghost use Rattle.walk.specs.Terms.{words_of_tag, words_of_constraint, words_of_field, words_of_declaration};
+ghost use Rattle.walk.specs.Terms.{flag_of, said_by, words_of_tag, words_of_constraint, words_of_field, words_of_declaration};
 
+use crate::kinds::{ConstraintKind, TagKind};
 use crate::{Described, Name, Number};
 use ast::numbers;
 use meaning::SourceLocation;
 
+// The two words of an integer that may be absent: whether it is there, and what it says.
+fn number_words(x: Option<Number>) -> (u64, u64)
+    ensures { result ≡ (flag_of x, said_by x) }
+{
+    match x {
+        None => (0, 0),
+        Some(x) => (1, text::value_of(x.value)),
+    }
+}
+
 // A tag's row.
+#[tactic(auto, unfolding(crate::specs::Terms::words_of_tag))]
 pub fn tag_row(
-    kind: u64,
+    kind: TagKind,
     p: SourceLocation,
     q: SourceLocation,
     id: Name,
-    v: Number,
-    e: Number,
+    v: Option<Number>,
+    e: Option<Number>,
     inner: usize,
 ) -> [u64; numbers::TAG_WORDS]
     ensures { result ≡ words_of_tag kind p q id v e inner }
 {
     [
-        kind,
+        kind as u64,
         p.offset as u64,
         p.line as u64,
         p.column as u64,
@@ -29,25 +41,26 @@ pub fn tag_row(
         q.column as u64,
         id.offset as u64,
         id.len as u64,
-        v.value,
-        e.value,
+        number_words(v).1,
+        number_words(e).1,
         inner as u64,
     ]
 }
 
 // A constraint's row.
+#[tactic(auto, unfolding(crate::specs::Terms::words_of_constraint))]
 pub fn constraint_row(
-    kind: u64,
+    kind: ConstraintKind,
     p: SourceLocation,
     q: SourceLocation,
     id: Name,
     tag: Name,
-    v: Number,
+    v: Option<Number>,
 ) -> [u64; numbers::CONSTRAINT_WORDS]
     ensures { result ≡ words_of_constraint kind p q id tag v }
 {
     [
-        kind,
+        kind as u64,
         p.offset as u64,
         p.line as u64,
         p.column as u64,
@@ -58,11 +71,12 @@ pub fn constraint_row(
         id.len as u64,
         tag.offset as u64,
         tag.len as u64,
-        v.value,
+        number_words(v).1,
     ]
 }
 
 // A field's row.
+#[tactic(auto, unfolding(crate::specs::Terms::words_of_field))]
 pub fn field_row(
     d: Described,
     p: SourceLocation,
@@ -73,8 +87,10 @@ pub fn field_row(
 ) -> [u64; numbers::FIELD_WORDS]
     ensures { result ≡ words_of_field d.kind p q d.a d.b d.c d.na d.nb first count cond }
 {
+    let (flag_a, number_a) = number_words(d.na);
+    let (flag_b, number_b) = number_words(d.nb);
     [
-        d.kind,
+        d.kind as u64,
         p.offset as u64,
         p.line as u64,
         p.column as u64,
@@ -87,24 +103,25 @@ pub fn field_row(
         d.b.len as u64,
         d.c.offset as u64,
         d.c.len as u64,
-        d.na.found,
-        d.na.value,
-        d.nb.found,
-        d.nb.value,
+        flag_a,
+        number_a,
+        flag_b,
+        number_b,
         first as u64,
         count as u64,
         cond as u64,
     ]
 }
 
-// A declaration's row.
+// A declaration's row. The enum of its kinds stands with their words and heads, in a crate above, so it is told by number.
+#[tactic(auto, unfolding(crate::specs::Terms::words_of_declaration))]
 pub fn declaration_row(
     kind: u64,
     p: SourceLocation,
     q: SourceLocation,
     id: Name,
     other: Name,
-    width: Number,
+    width: Option<Number>,
     first: usize,
     count: usize,
     list: usize,
@@ -112,6 +129,7 @@ pub fn declaration_row(
 ) -> [u64; numbers::DECLARATION_WORDS]
     ensures { result ≡ words_of_declaration kind p q id other width first count list listed }
 {
+    let (flag, said) = number_words(width);
     [
         kind,
         p.offset as u64,
@@ -124,8 +142,8 @@ pub fn declaration_row(
         id.len as u64,
         other.offset as u64,
         other.len as u64,
-        width.found,
-        width.value,
+        flag,
+        said,
         first as u64,
         count as u64,
         list as u64,
@@ -133,7 +151,7 @@ pub fn declaration_row(
     ]
 }
 
-// The first row of some, of which none is 0.
+// The first row of some; of none it is 0, as a row has it.
 pub fn first_of(first: usize, count: usize) -> usize
     ensures { result ≡ first_of first count }
 {

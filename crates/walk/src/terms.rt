@@ -1,85 +1,62 @@
 // Terms: the names and numbers that a part of a match stands for, and the kind of a constraint.
-ghost use Rattle.std.specs.Prelude.{◌≡◌, ◌+◌, ◌-◌, ◌^◌, ◌≤◌, ◌<◌, length};
-ghost use Rattle.walk.specs.Terms.{number_at, no_number, span_number, operand_number, size_number, part_number, no_name, span_name, operand_name, size_name, part_name, target_name, unquoted_name, other_name, Inside, InsideOperand, InsideSize, InsidePart, InsideTarget, constraint_kind};
+ghost use Rattle.std.specs.Prelude.{Some, ◌≡◌, ◌+◌, ◌-◌, ◌^◌, ◌≤◌, ◌<◌, length};
+ghost use Rattle.walk.specs.Terms.{number_at, span_number, operand_number, size_number, part_number, no_name, span_name, operand_name, size_name, part_name, target_name, unquoted_name, other_name, Inside, InsideOperand, InsideSize, InsidePart, InsideTarget, constraint_kind};
 
+use crate::kinds::ConstraintKind;
 use crate::{Name, Number};
-use meaning::Converted;
-use spans::{ArraySize, Operand, Part, Span, Target};
+use spans::{ArraySize, Operand, Span, Target};
 
 // The integer in s[at..end].
+#[tactic(auto, using(crate::proofs::Laws::part_is), unfolding(crate::specs::Terms::number_at))]
 pub fn integer_at(s: &[u8], at: usize, len: usize) -> Number
     requires { at + len ≤ length s.now }
     ensures { result ≡ number_at s.now at len }
 {
     let end = at + len;
-    let c = text::convert(&s[at..end]);
-    let Converted::Value(v) = c else {
-        return Number {
-            found: 1,
-            place: at,
-            reason: text::reason_of(c),
-            value: 0,
-        };
-    };
     Number {
-        found: 1,
         place: at,
-        reason: 0,
-        value: v,
-    }
-}
-
-// No integer.
-pub fn no_number() -> Number
-    ensures { result ≡ no_number }
-{
-    Number {
-        found: 0,
-        place: 0,
-        reason: 0,
-        value: 0,
+        value: text::convert(&s[at..end]),
     }
 }
 
 // The integer that a span of the text at `at` is.
 pub fn span_number(s: &[u8], at: usize, x: Span) -> Number
     requires { (at ≤ length s.now) × Inside (length s.now - at) x }
-    ensures { result ≡ span_number s.now at x }
+    ensures { Some result ≡ span_number s.now at x }
 {
     integer_at(s, at + x.start, x.len)
 }
 
 // The integer that an operand is, if it is one.
-pub fn operand_number(s: &[u8], at: usize, v: Operand) -> Number
+pub fn operand_number(s: &[u8], at: usize, v: Operand) -> Option<Number>
     requires { (at ≤ length s.now) × InsideOperand (length s.now - at) v }
     ensures { result ≡ operand_number s.now at v }
 {
     match v {
-        Operand::Identifier(_) => no_number(),
-        Operand::Integer(x) => span_number(s, at, x),
+        Operand::Identifier(_) => None,
+        Operand::Integer(x) => Some(span_number(s, at, x)),
     }
 }
 
 // The integer that an array's size is, if it is one.
-pub fn size_number(s: &[u8], at: usize, v: ArraySize) -> Number
+pub fn size_number(s: &[u8], at: usize, v: ArraySize) -> Option<Number>
     requires { (at ≤ length s.now) × InsideSize (length s.now - at) v }
     ensures { result ≡ size_number s.now at v }
 {
     match v {
-        ArraySize::Unknown => no_number(),
-        ArraySize::Modifier(_) => no_number(),
-        ArraySize::Known(x) => span_number(s, at, x),
+        ArraySize::Unknown | ArraySize::Modifier(_) => None,
+        ArraySize::Known(x) => Some(span_number(s, at, x)),
     }
 }
 
 // The integer of a part that may be absent.
-pub fn part_number(s: &[u8], at: usize, v: Part) -> Number
+pub fn part_number(s: &[u8], at: usize, v: Option<Span>) -> Option<Number>
     requires { (at ≤ length s.now) × InsidePart (length s.now - at) v }
     ensures { result ≡ part_number s.now at v }
 {
     match v {
-        Part::Absent => no_number(),
-        Part::Here(x) => span_number(s, at, x),
+        None => None,
+        Some(x) => Some(span_number(s, at, x)),
     }
 }
 
@@ -94,7 +71,7 @@ pub fn span_name(at: usize, x: Span) -> Name
     }
 }
 
-// No name.
+// No name: 0 and 0, as the row has it, so that an Option would be opened at once.
 pub fn no_name() -> Name
     ensures { result ≡ no_name }
 {
@@ -118,20 +95,19 @@ pub fn size_name(at: usize, n: usize, v: ArraySize) -> Name
     ensures { result ≡ size_name at v }
 {
     match v {
-        ArraySize::Unknown => no_name(),
         ArraySize::Modifier(x) => span_name(at, x),
-        ArraySize::Known(_) => no_name(),
+        ArraySize::Unknown | ArraySize::Known(_) => no_name(),
     }
 }
 
 // The name of a part that may be absent.
-pub fn part_name(at: usize, n: usize, v: Part) -> Name
+pub fn part_name(at: usize, n: usize, v: Option<Span>) -> Name
     requires { (at + n < 2 ^ 64) × InsidePart n v }
     ensures { result ≡ part_name at v }
 {
     match v {
-        Part::Absent => no_name(),
-        Part::Here(x) => span_name(at, x),
+        None => no_name(),
+        Some(x) => span_name(at, x),
     }
 }
 
@@ -141,9 +117,7 @@ pub fn target_name(at: usize, n: usize, v: Target) -> Name
     ensures { result ≡ target_name at v }
 {
     match v {
-        Target::OfField(x) => span_name(at, x),
-        Target::OfPayload(x) => span_name(at, x),
-        Target::OfBody(x) => span_name(at, x),
+        Target::OfField(x) | Target::OfPayload(x) | Target::OfBody(x) => span_name(at, x),
     }
 }
 
@@ -163,22 +137,22 @@ fn unquoted_name(at: usize, x: Span) -> Name
 }
 
 // The name of a declaration beside its id: its function's text, or else its parent.
-pub fn other_name(at: usize, n: usize, parent: Part, function: Part) -> Name
+pub fn other_name(at: usize, n: usize, parent: Option<Span>, function: Option<Span>) -> Name
     requires { (at + n + 1 < 2 ^ 64) × (InsidePart n parent × InsidePart n function) }
     ensures { result ≡ other_name at parent function }
 {
     match function {
-        Part::Absent => part_name(at, n, parent),
-        Part::Here(x) => unquoted_name(at, x),
+        None => part_name(at, n, parent),
+        Some(x) => unquoted_name(at, x),
     }
 }
 
-// The kind of a constraint: 2 for a tag, 1 for an integer.
-pub fn constraint_kind(value: Operand) -> u64
+// The kind of a constraint, by its value.
+pub fn constraint_kind(value: Operand) -> ConstraintKind
     ensures { result ≡ constraint_kind value }
 {
     match value {
-        Operand::Identifier(_) => 2,
-        Operand::Integer(_) => 1,
+        Operand::Identifier(_) => ConstraintKind::Tag,
+        Operand::Integer(_) => ConstraintKind::Integer,
     }
 }

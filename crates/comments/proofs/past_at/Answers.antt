@@ -1,6 +1,5 @@
--- `past_at` meets its contract.
-use Rattle.comments.proofs.Findings.{past_other}
+use Rattle.comments.proofs.Findings.{past_string}
 use Rattle.comments.proofs.past_at.Goals as goal
 
-pub returns-then-s-at-ne34 : goal.returns-then-s-at-ne34
-returns-then-s-at-ne34 c = past_other _ _ c.requires c.if-s-at-ne34.true
+pub returns-in-Took : goal.returns-in-Took
+returns-in-Took c = past_string _ _ c.requires c.string.ensures c.in-Took.is

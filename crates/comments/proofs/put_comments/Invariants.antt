@@ -5,8 +5,8 @@ use Rattle.walk.specs.State.{lend}
 use Rattle.comments.proofs.Turns.{Turning}
 use Rattle.comments.proofs.put_comments.Given as goal
 
-abbrev pub invariant-loop-i : goal.invariant-loop-i
-invariant-loop-i l = (length l.t ≡ length l.initial.t) × Turning l.s l.initial.n (lend Table.comments l.initial.t) l.i l.n (lend Table.comments l.t)
+abbrev pub invariant-loop-k : goal.invariant-loop-k
+invariant-loop-k l = (length l.t ≡ length l.initial.t) × Turning l.s l.initial.n (lend Table.comments l.initial.t) l.i l.n (lend Table.comments l.t)
 
-abbrev pub decreases-loop-i : goal.decreases-loop-i
-decreases-loop-i l = length l.s - l.i
+abbrev pub decreases-loop-k : goal.decreases-loop-k
+decreases-loop-k l = length l.s - l.i

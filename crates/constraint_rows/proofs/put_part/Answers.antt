@@ -6,16 +6,16 @@ pub returns-in_default : goal.returns-in_default
 returns-in_default c = part_none _ c.in_default.is c.requires
 
 pub overflow_add-i : goal.overflow_add-i
-overflow_add-i c = omega (arith, part_in c.requires c.in-Here.is, c.well_formed)
+overflow_add-i c = omega (arith, part_in c.requires c.in-Some.is, c.well_formed)
 
 pub slice_bounds-constraint-count : goal.slice_bounds-constraint-count
-slice_bounds-constraint-count c = part_in c.requires c.in-Here.is
+slice_bounds-constraint-count c = part_in c.requires c.in-Some.is
 
 pub slice_bounds-constraint-start : goal.slice_bounds-constraint-start
-slice_bounds-constraint-start c = part_in c.requires c.in-Here.is
+slice_bounds-constraint-start c = part_in c.requires c.in-Some.is
 
 pub put_list-requires : goal.put_list-requires
-put_list-requires c = part_ready c.requires c.in-Here.is c.constraint-first.ensures
+put_list-requires c = part_ready c.requires c.in-Some.is c.constraint-first.ensures
 
 pub returns : goal.returns
-returns c = part_done c.requires c.in-Here.is c.put_list.ensures
+returns c = part_done c.requires c.in-Some.is c.put_list.ensures

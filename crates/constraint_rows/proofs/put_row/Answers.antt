@@ -9,5 +9,5 @@ pub put-requires : goal.put-requires
 put-requires c = row_asks c.requires c.to-a.ensures c.to-b.ensures (omega (arith, c.well_formed))
 
 pub returns : goal.returns
-returns c = row_done c.requires c.to-a.ensures c.to-b.ensures c.span_name-id.ensures c.operand_name-tag.ensures c.constraint_kind.ensures
+returns c = row_done c.requires c.to-a.ensures c.to-b.ensures c.span_name-id.ensures c.operand_name-tag.ensures c.constraint_kind-kind.ensures
     c.constraint_row-row.ensures c.put.ensures

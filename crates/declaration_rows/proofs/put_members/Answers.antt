@@ -1,23 +1,18 @@
-use Rattle.std.proofs.Common.{arith}
 use Rattle.declaration_rows.proofs.MemberLaws.{bare_done, start_came, tagged_ready, tags_closed, fields_closed}
 use Rattle.declaration_rows.proofs.put_members.Goals as goal
 
-pub returns-then-kind-gt4 : goal.returns-then-kind-gt4
-returns-then-kind-gt4 c = bare_done c.requires _ c.if-kind-gt4.true
+pub put_tags-requires : goal.put_tags-requires
+put_tags-requires c = tagged_ready c.requires.came c.past_blanks.ensures c.requires c.in-Enum.is
 
-pub put_tags-w-requires : goal.put_tags-w-requires
-put_tags-w-requires c = tagged_ready c.requires (omega (arith, c.if-kind-gt4.false)) c.blanks.ensures c.if-kind-eq1.true
+pub returns-in-Enum-clause-goes : goal.returns-in-Enum-clause-goes
+returns-in-Enum-clause-goes c = tags_closed c.requires.came c.past_blanks.ensures c.past_brace.ensures _ _ _ c.in-Enum.is c.put_tags.ensures
 
-pub returns-then-kind-eq1 : goal.returns-then-kind-eq1
-returns-then-kind-eq1 c = tags_closed c.requires (omega (arith, c.if-kind-gt4.false))
-    c.blanks.ensures c.closed.ensures _ _
-    c.if-kind-eq1.true c.put_tags-w.ensures
+pub put_fields-requires : goal.put_fields-requires
+put_fields-requires c = start_came c.requires.came c.past_blanks-i.ensures
 
-pub put_fields-w-requires : goal.put_fields-w-requires
-put_fields-w-requires c = start_came c.requires (omega (arith, c.if-kind-gt4.false)) c.blanks.ensures
+pub returns-in-Packet-clause-goes : goal.returns-in-Packet-clause-goes
+returns-in-Packet-clause-goes c =
+    fields_closed c.requires.came c.past_blanks-i.ensures c.past_brace-in-Packet.ensures _ _ c.in-Packet.is c.put_fields.ensures
 
-pub returns : goal.returns
-returns c = fields_closed c.requires (omega (arith, c.if-kind-gt4.false))
-    c.blanks.ensures c.closed-2.ensures _
-    c.if-kind-eq1.false
-    c.put_fields-w.ensures
+pub returns-in-Checksum-clause-goes : goal.returns-in-Checksum-clause-goes
+returns-in-Checksum-clause-goes c = bare_done c.requires.came _ c.in-Checksum.is

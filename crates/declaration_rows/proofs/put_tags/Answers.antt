@@ -3,4 +3,4 @@ use Rattle.declaration_rows.proofs.put_tags.Goals as goal
 
 pub returns : goal.returns
 returns c = tags_done c.requires
-    c.put_tags-w.ensures c.list_end.ensures
+    c.put_tags.ensures c.past_comma.ensures

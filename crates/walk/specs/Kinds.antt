@@ -1,0 +1,34 @@
+-- The kinds of rows by their numbers (01, 'Rows').
+use Rattle.std.specs.Prelude.{ℕ}
+use Rattle.walk.specs.declared.kinds.FieldKind.{FieldKind}
+use Rattle.walk.specs.declared.kinds.FieldKind.TheVariants.{Checksum, Padding, Size, Count, ElementSize, Body, Payload, FixedScalar, FixedEnum, Reserved, Array, Scalar, Typedef, Group}
+use Rattle.walk.specs.declared.kinds.TagKind.{TagKind}
+use Rattle.walk.specs.declared.kinds.TagKind.TheVariants.{Value, Range, Other, ValueInRange}
+use Rattle.walk.specs.declared.kinds.ConstraintKind.{ConstraintKind}
+use Rattle.walk.specs.declared.kinds.ConstraintKind.TheVariants.{Integer, Tag}
+
+abbrev pub field_number : FieldKind → ℕ
+field_number Checksum = 1
+field_number Padding = 2
+field_number Size = 3
+field_number Count = 4
+field_number ElementSize = 5
+field_number Body = 6
+field_number Payload = 7
+field_number FixedScalar = 8
+field_number FixedEnum = 9
+field_number Reserved = 10
+field_number Array = 11
+field_number Scalar = 12
+field_number Typedef = 13
+field_number Group = 14
+
+abbrev pub tag_number : TagKind → ℕ
+tag_number Value = 1
+tag_number Range = 2
+tag_number Other = 3
+tag_number ValueInRange = 4
+
+abbrev pub constraint_number : ConstraintKind → ℕ
+constraint_number Integer = 1
+constraint_number Tag = 2

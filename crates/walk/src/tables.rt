@@ -1,0 +1,11 @@
+// The tables that the rows go into: their words, lent together.
+
+// The five lent tables of words. What they lend stays the same: only the words change.
+#[derive(Drop)]
+pub struct Tables<'a> {
+    pub declarations: &'a mut [u64],
+    pub fields: &'a mut [u64],
+    pub tags: &'a mut [u64],
+    pub constraints: &'a mut [u64],
+    pub comments: &'a mut [u64],
+}
