@@ -51,5 +51,4 @@ module _ (a : Aligner) (ps cs ps' cs' : List ℕ) (p : length ps' ≡ length ps)
   same_state align = states _ _ _ _ same_end refl refl
 
   pub same_judged : (k : Call) → judged k a ps' cs' ≡ judged (nameless k) a ps cs
-  unfolding judged
   same_judged k = rw (same_number k, same_state k)

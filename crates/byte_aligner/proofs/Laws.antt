@@ -1,26 +1,27 @@
 -- A call over one chunk row tells the call over a table of so many records.
 use Prim.Native.Nat.{ℕ, ◌+◌, ◌-◌, ◌<◌, ◌≤◌}
 use mathlib.Core.Path.{◌≡◌, refl, sym, ap, subst, ◌∙◌}
+use mathlib.Core.Logic.{◌⊎◌, inl, inr}
 use mathlib.Core.List.{List}
 use mathlib.Core.Bool.{Bool, true, false}
 use native.Mathlib.Omega.{arith}
 use lib.ListN.{length, set}
 use lib.Dec.{ltb, leb, eqb}
-use borrow.Author.Tests.{lt-ltb, le-ltb, le-leb, lt-leb, eq-eqb, ne_eqb, ltb-true, ltb-false, eqb-true, eqb-false}
+use borrow.Author.Tests.{lt-ltb, le-ltb, le-leb, lt-leb, ltb-true, ltb-false, eqb-true, eqb-false}
+use Rattle.std.specs.Prelude.{Ok, Err}
 use Rattle.meaning.specs.declared.Aligner.{Aligner}
 use Rattle.meaning.specs.Choice.{pick, both}
 use Rattle.meaning.specs.Tables.{put, room}
 use Rattle.meaning.specs.Rows.{placed_size, chunk_size, placed_words, chunk_words}
 use Rattle.meaning.specs.Alignment as meaning
-use Rattle.meaning.specs.Alignment.{World, world, sound, due, bits_number, bytes_number, dyn_number, end_number, bits_done, chunk_done, call, Call, add_bitfield, add_bytes, add_dyn_bytes}
-use Rattle.alignment.specs.NumberLaws.{differ, bits_fit, bytes_fit, dyn_fit}
-use Rattle.alignment.specs.declared.Called.{Called}
-use Rattle.alignment.specs.declared.Ended.{Ended}
-use Rattle.alignment.specs.Answers.{called, ended}
+use Rattle.meaning.specs.Alignment.{World, world, sound, due, bits_number, bytes_number, dyn_number, end_number, bits_done, chunk_done, call, Call, add_bitfield, add_bytes, add_dyn_bytes, align}
+use Rattle.alignment.specs.declared.Refusal.{Refusal}
+use Rattle.alignment.specs.NumberLaws.{bits_fit, bytes_fit, dyn_fit}
+use Rattle.alignment.specs.Refusals.{number, not_zero}
+use Rattle.alignment.specs.Answers.{called, Ended, finished, ended}
 use Rattle.byte_aligner.specs.declared.Chunk.{Chunk}
-use Rattle.byte_aligner.specs.declared.Plan.{Plan}
 use Rattle.byte_aligner.specs.Records.{row, flat, RecordWorld, record_world, words, bits_to, chunk_to, Recorded, recorded, call_to}
-use Rattle.byte_aligner.specs.Plans.{near, with_chunks, near_state, blank, plan, plan_of, put_if, given, Plans, Ends}
+use Rattle.byte_aligner.specs.Plans.{near, with_chunks, near_state, blank, chunk_of}
 use Rattle.byte_aligner.specs.Answers.{answered}
 use Rattle.byte_aligner.specs.SameRecords.{flat_rows, flattened, same_words}
 
@@ -49,31 +50,6 @@ module _ (k n : ℕ) where
       cases : (t : Bool) → both t (ltb 0 (pick t 0 (pick (eqb k n) 1 2))) ≡ false
       cases true = refl
       cases false = refl
-
--- ---- the code's own: `near`
-module _ (a : Aligner) (n : ℕ) where
-  pub near_room : a.chunks < n → with_chunks a 0 ≡ near_state a n
-  near_room h = simp (lt-ltb _ _ h)
-
-  pub near_none : n ≤ a.chunks → a.chunks ≡ n → with_chunks a 1 ≡ near_state a n
-  near_none h e = simp (le-ltb _ _ h, eq-eqb _ _ e)
-
-  pub near_above : n ≤ a.chunks → (a.chunks ≡ n → ⊥) → with_chunks a 2 ≡ near_state a n
-  near_above h e = simp (le-ltb _ _ h, ne_eqb _ _ e)
-
--- ---- and `planned`
-module _ (a : Aligner) (n : ℕ) (r : Called) (row : List ℕ) where
-  pub plan_due : a.chunks < n → 0 < r.state.chunks → plan true (a.chunks + 1) a r row ≡ plan_of a n r row
-  unfolding plan_of
-  plan_due h i = simp (lt-ltb _ _ h, lt-ltb _ _ i)
-
-  pub plan_quiet : a.chunks < n → r.state.chunks ≤ 0 → plan false a.chunks a r row ≡ plan_of a n r row
-  unfolding plan_of
-  plan_quiet h i = simp (lt-ltb _ _ h, le-ltb _ _ i)
-
-  pub plan_full : n ≤ a.chunks → plan false a.chunks a r row ≡ plan_of a n r row
-  unfolding plan_of
-  plan_full h = simp (le-ltb _ _ h)
 
 -- ---- the numbers
 module _ (a : Aligner) (ps cs : List ℕ) (n : ℕ) (e : room chunk_size cs ≡ n) where
@@ -109,7 +85,7 @@ module _ (a : Aligner) (ps cs : List ℕ) (n : ℕ) (e : room chunk_size cs ≡ 
   unfolding end_number
   same_end = rw same_sound
 
--- ---- the calls: what the core left over one row, as a plan over these records
+-- ---- the calls: what the core left over one row, told of these records
 module _ (a : Aligner) (ps : List ℕ) (rs : List Chunk) (n : ℕ) (e : length rs ≡ n) where
   abbrev k : ℕ
   k = a.chunks
@@ -120,8 +96,12 @@ module _ (a : Aligner) (ps : List ℕ) (rs : List Chunk) (n : ℕ) (e : length r
   abbrev w : World
   w = world (near_state a n) ps blank
 
+  -- a record is stored where the one row was free and was taken
   abbrev after : meaning.Called → Recorded
-  after o = given (plan_of a n (record { number = o.number; state = o.left.st }) o.left.cs) o.left.ps rs
+  after o =
+      pick (both (ltb k n) (ltb 0 o.left.st.chunks))
+      (recorded o.number (with_chunks o.left.st (k + 1)) o.left.ps (set rs k (chunk_of o.left.cs)))
+      (recorded o.number (with_chunks o.left.st k) o.left.ps rs)
 
   rows : room chunk_size (flat rs) ≡ n
   rows = flat_rows rs ∙ e
@@ -129,14 +109,13 @@ module _ (a : Aligner) (ps : List ℕ) (rs : List Chunk) (n : ℕ) (e : length r
   -- the row was not taken
   kept : (m : ℕ) (b : Aligner) (ps' ws : List ℕ) → after (record { number = m; left = world (with_chunks b (near k n)) ps' ws })
       ≡ recorded m (with_chunks b k) ps' rs
-  unfolding plan_of
   kept m b ps' ws = simp (near_quiet k n)
 
   -- it was
   took_first : ltb k n ≡ true → (m : ℕ) (b : Aligner) (ps' : List ℕ) (c : Chunk)
       → after (record { number = m; left = world (with_chunks b 1) ps' (put chunk_size 0 (row c) blank) })
       ≡ recorded m (with_chunks b (k + 1)) ps' (set rs k c)
-  unfolding plan_of put
+  unfolding put
   took_first t m b ps' c = simp t
 
   took : k < n → (m : ℕ) (b : Aligner) (ps' : List ℕ) (c : Chunk)
@@ -212,71 +191,51 @@ module _ (a : Aligner) (ps : List ℕ) (rs : List Chunk) (n : ℕ) (e : length r
   unfolding call call_to
   dyn_after s = rw (same_dyn a ps (flat rs) n rows) (chunk_after (dyn_number (words h)) 3 s 0 (λ z. fewer (dyn_fit (words h) z).chunk))
 
--- a record is due only where it has room
-both_first : (s t : Bool) → both s t ≡ true → s ≡ true
-both_first true t e = refl
-both_first false t e = absurd (differ e)
-
-due_room : (a : Aligner) (n : ℕ) (r : Called) (row : List ℕ) → (plan_of a n r row).due ≡ true → (plan_of a n r row).at < n
-unfolding plan_of
-due_room a n r row = cases (both (ltb a.chunks n) (ltb 0 r.state.chunks)) (λ t. ltb-true _ _ (both_first _ _ t))
-  where
-    cases : (t : Bool) → (t ≡ true → a.chunks < n) → (pick t (plan true (a.chunks + 1) a r row) (plan false a.chunks a r row)).due ≡ true
-        → (pick t (plan true (a.chunks + 1) a r row) (plan false a.chunks a r row)).at < n
-    cases true f e = f refl
-    cases false f e = absurd (differ e)
-
--- the plan that the code makes of what the core answered
-module _ (c : Call) (a : Aligner) (ps : List ℕ) (n : ℕ) (hold : (rs : List Chunk) (e : length rs ≡ n)
-    → after a ps rs n e (call c (world (near_state a n) ps blank)) ≡ call_to c (record_world a ps rs)) where
-  plans : (r : Called) (ps' row : List ℕ) → called r ps' row ≡ call c (world (near_state a n) ps blank) → (p : Plan) → p ≡ plan_of a n r row
-      → Plans c a ps n p ps'
-  plans r ps' row q p e = record {
-    is = λ rs l. ap (λ (z : Plan). given z ps' rs) e ∙ ap (after a ps rs n l) q ∙ hold rs l;
-    fits = subst (λ (z : Plan). z.due ≡ true → z.at < n) (sym e) (due_room a n r row);
-  }
-
-module _ (a : Aligner) (ps : List ℕ) (n : ℕ) (b : Aligner) (d : b ≡ near_state a n) (r : Called) (ps' row : List ℕ) where
-  pub plans_bits : (s v : ℕ) → called r ps' row ≡ call (add_bitfield s v) (world b ps blank) → (p : Plan) → p ≡ plan_of a n r row
-      → Plans (add_bitfield s v) a ps n p ps'
-  plans_bits s v q = plans (add_bitfield s v) a ps n (λ rs e. bits_after a ps rs n e s v) r ps' row (rw d at q)
-
-  pub plans_bytes : (s v : ℕ) → called r ps' row ≡ call (add_bytes s v) (world b ps blank) → (p : Plan) → p ≡ plan_of a n r row
-      → Plans (add_bytes s v) a ps n p ps'
-  plans_bytes s v q = plans (add_bytes s v) a ps n (λ rs e. bytes_after a ps rs n e s v) r ps' row (rw d at q)
-
-  pub plans_dyn : (s : ℕ) → called r ps' row ≡ call (add_dyn_bytes s) (world b ps blank) → (p : Plan) → p ≡ plan_of a n r row
-      → Plans (add_dyn_bytes s) a ps n p ps'
-  plans_dyn s q = plans (add_dyn_bytes s) a ps n (λ rs e. dyn_after a ps rs n e s) r ps' row (rw d at q)
-
--- ---- the end
-module _ (a : Aligner) (ps : List ℕ) (n : ℕ) (b : Aligner) (d : b ≡ near_state a n) (r : Ended) (q : r ≡ ended b ps blank) where
-  number_is : (cs : List ℕ) → room chunk_size cs ≡ n → r.number ≡ end_number (world a ps cs)
-  unfolding ended
-  number_is cs e = ap (λ (z : Ended). z.number) q ∙ rw d (same_end a ps cs n e)
-
-  pub ends_refused : (r.number ≡ 0 → ⊥) → Ends a ps n r
-  unfolding ended
-  ends_refused f =
-      record {
-        is = λ cs e. q ∙ cases (end_number (world b ps blank)) (end_number (world a ps cs))
-            (sym (ap (λ (z : Ended). z.number) q) ∙ number_is cs e) (λ z. f (number_is cs e ∙ z));
-      }
+  -- every call, over these records
+  tells : (c : Call) → after (call c w) ≡ call_to c h
+  unfolding call call_to
+  tells (add_bitfield s v) = bits_after s v
+  tells (add_bytes s v) = bytes_after s v
+  tells (add_dyn_bytes s) = dyn_after s
+  tells align = rw (same_end a ps (flat rs) n rows) (cases (end_number (words h)) (eqb (end_number (words h)) 0))
     where
-      cases : (m m' : ℕ) → m ≡ m' → (m' ≡ 0 → ⊥) → ◌≡◌ {A = Ended} (record { number = m; chunks = pick (eqb m 0) b.chunks 0 })
-          (record { number = m'; chunks = pick (eqb m' 0) a.chunks 0 })
-      cases m m' g f = rw g (simp (ne_eqb m' 0 f))
+      cases : (m : ℕ) (t : Bool) → after (record { number = m; left = pick t w w }) ≡ record { number = m; left = pick t h h }
+      cases m true = kept m a ps blank
+      cases m false = kept m a ps blank
 
-  pub ends_accepted : r.number ≡ 0 → Ends a ps n (record { number = 0; chunks = a.chunks })
+-- ---- what a call over records leaves, from what the core left of the one row
+module _ (c : Call) (a : Aligner) (ps : List ℕ) (rs : List Chunk) (ps' row : List ℕ) where
+  abbrev b : Aligner
+  b = near_state a (length rs)
+
+  abbrev asked : meaning.Called
+  asked = call c (world b ps blank)
+
+  settled : (o : meaning.Called) → o ≡ asked → flattened (after a ps rs (length rs) refl o) ≡ call c (world a ps (flat rs))
+  settled o q = ap flattened (ap (after a ps rs (length rs) refl) q ∙ tells a ps rs (length rs) refl c) ∙ same_words c (record_world a ps rs)
+
+  pub left_refused : (e : Refusal) → called b (Err e) ps' row ≡ asked → answered (number e) a ps' (flat rs) ≡ call c (world a ps (flat rs))
+  left_refused e q = sym (ap flattened (kept a ps rs (length rs) refl (number e) a ps' row)) ∙ settled (called b (Err e) ps' row) q
+
+  module _ (s : Aligner) (q : called b (Ok s) ps' row ≡ asked) where
+    pub left_stored : a.chunks < length rs → 0 < s.chunks
+        → answered 0 (with_chunks s (a.chunks + 1)) ps' (flat (set rs a.chunks (chunk_of row))) ≡ call c (world a ps (flat rs))
+    left_stored l m = simp (lt-ltb _ _ l, lt-ltb _ _ m) at (settled (called b (Ok s) ps' row) q)
+
+    pub left_kept : (a.chunks < length rs × s.chunks ≤ 0) ⊎ (length rs ≤ a.chunks)
+        → answered 0 (with_chunks s a.chunks) ps' (flat rs) ≡ call c (world a ps (flat rs))
+    left_kept (inl m) = simp (lt-ltb _ _ m.0, le-ltb _ _ m.1) at (settled (called b (Ok s) ps' row) q)
+    left_kept (inr l) = simp (le-ltb _ _ l) at (settled (called b (Ok s) ps' row) q)
+
+-- ---- the end: b is the state as over one row
+module _ (a : Aligner) (ps : List ℕ) (rs : List Chunk) (b : Aligner) (d : b ≡ near_state a (length rs)) where
+  same_number : end_number (world b ps blank) ≡ end_number (world a ps (flat rs))
+  same_number = rw d (same_end a ps (flat rs) (length rs) (flat_rows rs))
+
+  pub end_refused : (e : Refusal) → finished (Err e) ≡ ended b ps blank → finished (Err e) ≡ ended a ps (flat rs)
   unfolding ended
-  ends_accepted z = record { is = λ cs e. cases (end_number (world a ps cs)) (sym (number_is cs e) ∙ z) }
-    where
-      cases : (m : ℕ) → m ≡ 0 → ◌≡◌ {A = Ended} (record { number = 0; chunks = a.chunks }) (record { number = m; chunks = pick (eqb m 0) a.chunks 0 })
-      cases m g = rw g refl
+  end_refused e q = rw (← ap (λ (x : Ended). x.number) q ∙ same_number) (simp (not_zero e))
 
--- ---- a planned call, once its record is stored
-pub stored : (c : Call) (a : Aligner) (ps : List ℕ) (rs : List Chunk) (p : Plan) (ps' : List ℕ) (rs' : List Chunk) → Plans c a ps (length rs) p ps'
-    → rs' ≡ put_if p.due rs p.at p.chunk
-    → answered p.number p.state ps' (flat rs') ≡ call c (world a ps (flat rs))
-stored c a ps rs p ps' rs' s e =
-    ap (λ (l : List Chunk). answered p.number p.state ps' (flat l)) e ∙ ap flattened (s.is rs refl) ∙ same_words c (record_world a ps rs)
+  pub end_accepted : (n : ℕ) → finished (Ok n) ≡ ended b ps blank → finished (Ok a.chunks) ≡ ended a ps (flat rs)
+  unfolding ended
+  end_accepted n q = let z : 0 ≡ end_number (world a ps (flat rs)) = ap (λ (x : Ended). x.number) q ∙ same_number in rw (← z) refl

@@ -2,21 +2,20 @@
 use Rattle.std.specs.Prelude.{ℕ, List}
 use Rattle.meaning.specs.declared.Aligner.{Aligner}
 use Rattle.meaning.specs.Alignment.{Called, world}
-use Rattle.alignment.specs.declared.Ended.{Ended}
-use Rattle.alignment.specs.Answers.{ended}
+use Rattle.alignment.specs.Answers.{Ended, ended}
 
--- the answer of a call, with the state and the words that it left
+-- the number of a call, with the state and the words that it left
 abbrev pub answered : ℕ → Aligner → List ℕ → List ℕ → Called
 answered n a ps cs = record { number = n; left = world a ps cs }
 
 -- the answer of the end, with the state that it left
-pub record Finished : Type 0 where
+pub record Ending : Type 0 where
   pub answer : Ended
   pub state : Aligner
 
-abbrev pub finished : Ended → Aligner → Finished
-finished r a = record { answer = r; state = a }
+abbrev pub ending : Ended → Aligner → Ending
+ending r a = record { answer = r; state = a }
 
 -- the end answers as over a state by value, and leaves the state as it came
-abbrev pub align_at : Aligner → List ℕ → List ℕ → Finished
-align_at a ps cs = finished (ended a ps cs) a
+abbrev pub align_at : Aligner → List ℕ → List ℕ → Ending
+align_at a ps cs = ending (ended a ps cs) a

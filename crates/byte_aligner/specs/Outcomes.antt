@@ -1,12 +1,12 @@
--- No two outcomes satisfy what the calls on a lent state say.
+-- No two outcomes satisfy what the calls on a lent state say. That no two results have one number is `one_refused` and `one_finished` of `alignment`.
 use Rattle.std.specs.Prelude.{ℕ, ◌≡◌, refl, List, [], ◌∷◌}
 use Rattle.std.proofs.Common.{ap}
 use Rattle.meaning.specs.declared.Aligner.{Aligner}
 use Rattle.meaning.specs.Alignment.{Called}
-use Rattle.alignment.specs.declared.Ended.{Ended}
+use Rattle.alignment.specs.Answers.{Ended}
 use Rattle.alignment.specs.Outcomes.{one_outcome}
 use Rattle.byte_aligner.specs.declared.Chunk.{Chunk}
-use Rattle.byte_aligner.specs.Answers.{answered, Finished, finished}
+use Rattle.byte_aligner.specs.Answers.{answered, Ending, ending}
 use Rattle.byte_aligner.specs.Records.{flat}
 
 -- a call over words: the number, the state, and the words of both tables
@@ -46,8 +46,8 @@ one_recorded =
     (λ o. ap (λ (l : List Chunk). (o.0, (o.1.0, (o.1.1.0, l)))) (read_back o.1.1.1))
 
 -- the end: the answer and the state
-abbrev pack_end : Ended × Aligner → Finished
-pack_end o = finished o.0 o.1
+abbrev pack_end : Ended × Aligner → Ending
+pack_end o = ending o.0 o.1
 
-pub one_finished : (o p : Ended × Aligner) {z : Finished} → pack_end o ≡ z → pack_end p ≡ z → o ≡ p
-one_finished = one_outcome pack_end (λ c. (c.answer, c.state)) (λ o. refl)
+pub one_ending : (o p : Ended × Aligner) {z : Ending} → pack_end o ≡ z → pack_end p ≡ z → o ≡ p
+one_ending = one_outcome pack_end (λ c. (c.answer, c.state)) (λ o. refl)

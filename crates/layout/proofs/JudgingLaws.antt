@@ -6,6 +6,7 @@ use mathlib.Core.List.{List}
 use mathlib.Core.Bool.{Bool, true, false}
 use native.Mathlib.Omega.{arith}
 use lib.ListN.{length}
+use Rattle.std.specs.Prelude.{Result, Ok, Err}
 use lib.Dec.{ltb, eqb}
 use borrow.Author.Tests.{lt-ltb, ltb-true, ltb-false}
 use Rattle.meaning.specs.declared.Aligner.{Aligner}
@@ -15,24 +16,23 @@ use Rattle.meaning.specs.Rows.{placed_size, placed_symbol, placed_words, chunk_s
 use Rattle.meaning.specs.Alignment.{World, world, staged, due, end_number, bits_done, chunk_done, add_bitfield, add_dyn_bytes, call}
 use Rattle.meaning.specs.Feeding.{word, Fed, fed_refused, feed_fields}
 use Rattle.ast.specs.RowLaws.{fits_iff, length_put, put_word, put_word_before}
-use Rattle.alignment.specs.Answers.{judged}
 use Rattle.alignment.specs.NumberLaws.{Sound, sound_is, BitsFit, bits_fit, ChunkFits, dyn_fit}
 use Rattle.alignment.specs.SoundLaws.{sound_step}
 use Rattle.alignment.specs.LengthLaws.{same_end, same_judged}
-use Rattle.layout.specs.declared.Verdict.{Verdict}
 use Rattle.layout.specs.declared.Request.{Request}
-use Rattle.layout.specs.declared.Request.TheVariants.{Nothing, Bits, Dynamic, Refused}
+use Rattle.layout.specs.declared.Request.TheVariants.{Nothing, Bits, Dynamic}
+use Rattle.layout.specs.declared.Refusal.{Refusal}
 use Rattle.layout.specs.Requests.{request, served, feeds}
-use Rattle.layout.specs.Judging.{foreseen, verdict, judge}
+use Rattle.layout.specs.Judging.{foreseen, Verdict, verdict, judge}
 
 -- ---- tables of the same lengths
-same_foreseen : (a : Aligner) (ps cs ps' cs' : List ℕ) → length ps' ≡ length ps → length cs' ≡ length cs → (r : Request) (i : ℕ)
+same_foreseen : (a : Aligner) (ps cs ps' cs' : List ℕ) → length ps' ≡ length ps → length cs' ≡ length cs → (r : Result Request Refusal) (i : ℕ)
     → foreseen r a ps cs ≡ record { number = (served r i (world a ps' cs')).number; state = (served r i (world a ps' cs')).left.st }
-unfolding foreseen served judged
-same_foreseen a ps cs ps' cs' p q Nothing i = refl
-same_foreseen a ps cs ps' cs' p q (Bits v) i = sym (same_judged a ps cs ps' cs' p q (add_bitfield i v))
-same_foreseen a ps cs ps' cs' p q Dynamic i = sym (same_judged a ps cs ps' cs' p q (add_dyn_bytes i))
-same_foreseen a ps cs ps' cs' p q (Refused n) i = refl
+unfolding foreseen served
+same_foreseen a ps cs ps' cs' p q (Ok Nothing) i = refl
+same_foreseen a ps cs ps' cs' p q (Ok (Bits v)) i = sym (same_judged a ps cs ps' cs' p q (add_bitfield i v))
+same_foreseen a ps cs ps' cs' p q (Ok Dynamic) i = sym (same_judged a ps cs ps' cs' p q (add_dyn_bytes i))
+same_foreseen a ps cs ps' cs' p q (Err e) i = refl
 
 -- ---- what an accepted field keeps
 -- w has tables of these lengths, and f is the symbol of its first staged row
@@ -87,19 +87,19 @@ module _ (ps cs : List ℕ) where
           first = λ l. absurd (omega (arith, c.bare));
         }
 
-    staging_next : (r : Request) (i : ℕ) → (served r i w).number ≡ 0 → Staging ps cs (served r i w).left (pick (staged w.st) f i)
+    staging_next : (r : Result Request Refusal) (i : ℕ) → (served r i w).number ≡ 0 → Staging ps cs (served r i w).left (pick (staged w.st) f i)
     unfolding served call
-    staging_next Nothing i e = stays i
-    staging_next (Bits v) i e = rw e (staging_bits i v (bits_fit v w e))
-    staging_next Dynamic i e = rw e (staging_chunk 3 i 0 (dyn_fit w e))
-    staging_next (Refused n) i e = stays i
+    staging_next (Ok Nothing) i e = stays i
+    staging_next (Ok (Bits v)) i e = rw e (staging_bits i v (bits_fit v w e))
+    staging_next (Ok Dynamic) i e = rw e (staging_chunk 3 i 0 (dyn_fit w e))
+    staging_next (Err x) i e = stays i
 
-sound_served : (r : Request) (i : ℕ) (w : World) → Sound w → Sound (served r i w).left
+sound_served : (r : Result Request Refusal) (i : ℕ) (w : World) → Sound w → Sound (served r i w).left
 unfolding served
-sound_served Nothing i w s = s
-sound_served (Bits v) i w s = sound_step (add_bitfield i v) w s
-sound_served Dynamic i w s = sound_step (add_dyn_bytes i) w s
-sound_served (Refused n) i w s = s
+sound_served (Ok Nothing) i w s = s
+sound_served (Ok (Bits v)) i w s = sound_step (add_bitfield i v) w s
+sound_served (Ok Dynamic) i w s = sound_step (add_dyn_bytes i) w s
+sound_served (Err e) i w s = s
 
 -- ---- the whole
 module _ (fs ps cs : List ℕ) where

@@ -1,4 +1,3 @@
-pub mod Laws
 pub mod JudgingLaws
 pub mod LoopLaws
 pub mod WholeLaws

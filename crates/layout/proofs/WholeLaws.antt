@@ -1,94 +1,66 @@
--- The declaration, and each answer of the whole.
-use Prim.Native.Nat.{ℕ, zero, suc, ◌+◌, ◌<◌, ◌≤◌}
-use mathlib.Core.Path.{◌≡◌, refl, sym, ap, ◌∙◌}
+-- Each answer of the whole.
+use Prim.Native.Nat.{ℕ, zero, suc, ◌-◌}
+use mathlib.Core.Path.{◌≡◌, sym, ap, ◌∙◌}
 use mathlib.Core.List.{List}
-use native.Mathlib.Omega.{arith}
-use lib.Dec.{ltb, leb}
-use borrow.Author.Tests.{lt-ltb, le-ltb, le-leb, lt-leb, ne_eqb, ltb-false, leb-false}
+use Rattle.std.specs.Prelude.{false, Result, Ok, Err, IfOk}
+use lib.Dec.{eqb}
 use Rattle.meaning.specs.declared.Aligner.{Aligner}
-use Rattle.meaning.specs.Tables.{Table, size, room}
-use Rattle.meaning.specs.Rows.{row_kind, declaration_first, declaration_count}
 use Rattle.meaning.specs.Alignment.{fresh, world}
-use Rattle.meaning.specs.Feeding.{declaration_word, Fed, laid, feed_fields, feed_number, layout}
-use Rattle.alignment.specs.NumberLaws.{past}
-use Rattle.layout.specs.declared.Verdict.{Verdict}
-use Rattle.layout.specs.Judging.{verdict, Accepted}
-
--- ---- the declaration
-module _ (ds fs : List ℕ) (d : ℕ) where
-  pub number_past : room (size Table.declarations) ds ≤ d → 15 ≡ feed_number ds fs d
-  unfolding feed_number
-  number_past h = simp (le-leb _ _ h)
-
-  module _ (h : d < room (size Table.declarations) ds) (k : ℕ) (e : k ≡ declaration_word ds d row_kind) where
-    pub number_low : k < 2 → 15 ≡ feed_number ds fs d
-    unfolding feed_number
-    number_low i = rw (← e) (simp (lt-leb _ _ h, lt-ltb _ _ i))
-
-    module _ (i : 2 ≤ k) where
-      pub number_high : 4 < k → 15 ≡ feed_number ds fs d
-      unfolding feed_number
-      number_high j = rw (← e) (simp (lt-leb _ _ h, le-ltb _ _ i, lt-ltb _ _ j))
-
-      module _ (j : k ≤ 4) (first count : ℕ) (p : first ≡ declaration_word ds d declaration_first) (q : count ≡ declaration_word ds d declaration_count) where
-        pub number_17 : room (size Table.fields) fs < first + count → 17 ≡ feed_number ds fs d
-        unfolding feed_number
-        number_17 l = rw (← e, ← p, ← q) (simp (lt-leb _ _ h, le-ltb _ _ i, le-ltb _ _ j, lt-ltb _ _ l))
-
-        pub number_0 : first + count ≤ room (size Table.fields) fs → 0 ≡ feed_number ds fs d
-        unfolding feed_number
-        number_0 l = rw (← e, ← p, ← q) (simp (lt-leb _ _ h, le-ltb _ _ i, le-ltb _ _ j, le-ltb _ _ l))
+use Rattle.meaning.specs.Feeding.{Fed, laid, feed_fields, feed_number, layout}
+use Rattle.alignment.specs.NumberLaws.{differ}
+use Rattle.layout.specs.declared.Refusal.{Refusal}
+use Rattle.layout.specs.declared.Refused.{Refused}
+use Rattle.layout.specs.Refusals.{number, not_zero, refused as refused_by}
+use Rattle.layout.specs.Judging.{Among, Verdict, verdict, judgement, Accepted, answered}
 
 -- ---- the whole
 module _ (ps cs : List ℕ) (x : Fed) where
-  laid_refused : (v : Verdict) → v ≡ verdict x → (v.number ≡ 0 → ⊥)
-      → record { number = v.number; place = v.place; placed = 0; chunks = 0; ps = ps; cs = cs } ≡ laid x ps cs
-  laid_refused v e h =
-      let g : x.number ≡ 0 → ⊥ = λ z. h (ap (λ (y : Verdict). y.number) e ∙ z) in
-      rw e (simp (ne_eqb _ _ g))
+  laid_refused : (e : Refused) → judgement (Err e) ≡ verdict x → answered (Err e) ps cs ≡ laid x ps cs
+  laid_refused e h =
+      let n : number e.refusal ≡ x.number = ap (λ (v : Verdict). v.number) h in
+      let p : e.place ≡ x.place = ap (λ (v : Verdict). v.place) h in
+      let z : eqb x.number 0 ≡ false = rw n at (not_zero e.refusal) in
+      rw z (rw (n, p))
 
   laid_accepted : x.number ≡ 0 → (a : Aligner) (ps' cs' : List ℕ) → world a ps' cs' ≡ x.left
-      → record { number = 0; place = 0; placed = a.placed; chunks = a.chunks; ps = ps'; cs = cs' } ≡ laid x ps cs
+      → answered (Ok (record { placed = a.placed; chunks = a.chunks })) ps' cs' ≡ laid x ps cs
   laid_accepted z a ps' cs' g = rw z (rw (← g))
 
-module _ (ds fs : List ℕ) (d : ℕ) (n : ℕ) (e : n ≡ feed_number ds fs d) where
-  module _ (z : n ≡ 0) where
-    pub index_fits : d < room (size Table.declarations) ds
-    unfolding feed_number
-    index_fits = leb-false _ _ (past _ 15 _ refl (sym e ∙ z)).0
+-- what was not refused
+pub opened : {A : Type 0} (P : A → Type 0) (r : Result A Refusal) (x : A) {n : ℕ} → refused_by r ≡ n → IfOk r P → r ≡ Ok x → (0 ≡ n) × P x
+opened P r x e m q = (rw q at e, rw q at m)
 
-    pub rows_fit : (first count : ℕ) → first ≡ declaration_word ds d declaration_first
-        → count ≡ declaration_word ds d declaration_count → first + count ≤ room (size Table.fields) fs
-    unfolding feed_number
-    rows_fit first count p q =
-        let r1 = past (leb (room (size Table.declarations) ds) d) 15 _ refl (sym e ∙ z) in
-        let r2 = past (ltb (declaration_word ds d row_kind) 2) 15 _ refl r1.1 in
-        let r3 = past (ltb 4 (declaration_word ds d row_kind)) 15 _ refl r2.1 in
-        rw (p, q) (ltb-false _ _ (past _ 17 0 refl r3.1).0)
+module _ (ds fs : List ℕ) (d : ℕ) where
+  -- the declaration's fields are those from first up to last
+  abbrev Open : ℕ → ℕ → Type 0
+  Open first last = (0 ≡ feed_number ds fs d) × Among ds fs d first last
 
   module _ (ps cs : List ℕ) where
-    refuses : (m : ℕ) → n ≡ m → (m ≡ 0 → ⊥) → record { number = m; place = d; placed = 0; chunks = 0; ps = ps; cs = cs } ≡ layout ds fs d ps cs
+    refuses : (m : ℕ) → feed_number ds fs d ≡ m → eqb m 0 ≡ false
+        → record { number = m; place = d; placed = 0; chunks = 0; ps = ps; cs = cs } ≡ layout ds fs d ps cs
     unfolding layout
-    refuses zero i h = absurd (h refl)
-    refuses (suc m) i h = rw (sym e ∙ i, layout) (simp (ne_eqb (suc m) 0 (λ z. omega arith)))
+    refuses zero i h = absurd (differ (sym h))
+    refuses (suc m) i h = rw (i, layout) (simp h)
 
-    pub refused : (n ≡ 0 → ⊥) → record { number = n; place = d; placed = 0; chunks = 0; ps = ps; cs = cs } ≡ layout ds fs d ps cs
-    refused h = refuses n refl h
+    pub refused : (e : Refusal) → number e ≡ feed_number ds fs d → answered (Err (record { refusal = e; place = d })) ps cs ≡ layout ds fs d ps cs
+    refused e h = refuses (number e) (sym h) (not_zero e)
 
-    module _ (z : n ≡ 0) (first count : ℕ) (p : first ≡ declaration_word ds d declaration_first) (q : count ≡ declaration_word ds d declaration_count)
-        (v : Verdict) (ev : v ≡ verdict (feed_fields fs count first (world fresh ps cs))) where
-      opens : layout ds fs d ps cs ≡ laid (feed_fields fs count first (world fresh ps cs)) ps cs
+    -- the fields from first up to last are fed
+    module _ (first last : ℕ) (o : Open first last) where
+      abbrev fed : Fed
+      fed = feed_fields fs (last - first) first (world fresh ps cs)
+
+      opens : layout ds fs d ps cs ≡ laid fed ps cs
       unfolding layout
-      opens = rw (sym e ∙ z, layout, p, q)
+      opens = rw (← o.0, layout, ← o.1.starts, ← o.1.counts)
 
-      pub refused_fields : (v.number ≡ 0 → ⊥) → record { number = v.number; place = v.place; placed = 0; chunks = 0; ps = ps; cs = cs }
-          ≡ layout ds fs d ps cs
-      refused_fields h = laid_refused ps cs (feed_fields fs count first (world fresh ps cs)) v ev h ∙ sym opens
+      pub refused_fields : (e : Refused) → judgement (Err e) ≡ verdict fed → answered (Err e) ps cs ≡ layout ds fs d ps cs
+      refused_fields e h = laid_refused ps cs fed e h ∙ sym opens
 
-      module _ (h : v.number ≡ 0) where
-        pub accepted : Accepted fs first count ps cs
-        accepted = record { rows = rows_fit z first count p q; number = sym (ap (λ (x : Verdict). x.number) ev) ∙ h }
+      module _ (u : Unit) (h : judgement (Ok u) ≡ verdict fed) where
+        pub accepted : Accepted fs first last ps cs
+        accepted = record { rows = o.1.rows; number = sym (ap (λ (x : Verdict). x.number) h) }
 
-        pub laid_out : (a : Aligner) (ps' cs' : List ℕ) → world a ps' cs' ≡ (feed_fields fs count first (world fresh ps cs)).left
-            → record { number = 0; place = 0; placed = a.placed; chunks = a.chunks; ps = ps'; cs = cs' } ≡ layout ds fs d ps cs
-        laid_out a ps' cs' g = laid_accepted ps cs (feed_fields fs count first (world fresh ps cs)) accepted.number a ps' cs' g ∙ sym opens
+        pub laid_out : (a : Aligner) (ps' cs' : List ℕ) → world a ps' cs' ≡ fed.left
+            → answered (Ok (record { placed = a.placed; chunks = a.chunks })) ps' cs' ≡ layout ds fs d ps cs
+        laid_out a ps' cs' g = laid_accepted ps cs fed accepted.number a ps' cs' g ∙ sym opens

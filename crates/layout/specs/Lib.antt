@@ -1,2 +1,3 @@
+pub mod Refusals
 pub mod Requests
 pub mod Judging

@@ -1,33 +1,33 @@
 // The judging pass: what the aligner would answer to each field and to the end, by the aligner's own judges. No row is written.
-ghost use Rattle.std.specs.Prelude.{◌≡◌, ◌+◌, ◌≤◌};
+ghost use Rattle.std.specs.Prelude.{◌≡◌, ◌-◌, ◌≤◌, ◌<◌};
 ghost use Rattle.meaning.specs.Choice.{pick};
 ghost use Rattle.meaning.specs.Tables.{Table, size, room};
 ghost use Rattle.meaning.specs.Alignment.{fresh, world, staged};
 ghost use Rattle.meaning.specs.Feeding.{feed_fields};
-ghost use Rattle.layout.specs.Judging.{same, foreseen, verdict};
+ghost use Rattle.layout.specs.Requests.{request};
+ghost use Rattle.layout.specs.Judging.{told, foreseen, judgement, verdict};
 
 use crate::requests::field_request;
-use crate::{Request, Verdict};
-use alignment::Called;
-use ast::numbers;
+use crate::{Refusal, Refused, Request};
 use meaning::Aligner;
+use std::ops::Range;
 
-// An answer that leaves the state as it is.
-fn unchanged(number: u64, a: Aligner) -> Called
-    ensures { result ≡ same number a }
+// The state that the aligner would leave of a field row's request, or why it would be refused.
+#[tactic(auto, unfolding(crate::specs::Judging::foreseen))]
+fn judge_field(
+    fields: &[u64],
+    i: usize,
+    a: Aligner,
+    placed: &[u64],
+    chunks: &[u64],
+) -> Result<Aligner, Refusal>
+    requires { i < room (size Table.fields) fields.now }
+    ensures { told a result ≡ foreseen (request fields.now i) a placed.now chunks.now }
 {
-    Called { number, state: a }
-}
-
-// What the aligner would answer to a request, and the state that it would leave.
-fn judge_field(asked: Request, a: Aligner, placed: &[u64], chunks: &[u64]) -> Called
-    ensures { result ≡ foreseen asked a placed.now chunks.now }
-{
-    match asked {
-        Request::Nothing => unchanged(0, a),
-        Request::Bits(width) => alignment::judge_bitfield(a, placed, chunks, width),
-        Request::Dynamic => alignment::judge_dyn_bytes(a, placed, chunks),
-        Request::Refused(number) => unchanged(number, a),
+    match field_request(fields, i)? {
+        Request::Nothing => Ok(a),
+        Request::Bits(width) => Ok(alignment::judge_bitfield(a, placed, chunks, width)?),
+        Request::Dynamic => Ok(alignment::judge_dyn_bytes(a, placed, chunks)?),
     }
 }
 
@@ -38,42 +38,31 @@ fn first_staged(a: Aligner, first: usize, i: usize) -> usize
     if alignment::is_aligned(a) { i } else { first }
 }
 
-// Judges the fields from a row on, then the end. No row is written.
+// Judges the fields of these rows, then the end. No row is written. The range is lent, since both passes go over it.
 pub fn judge_fields(
     fields: &[u64],
-    first: usize,
-    count: usize,
+    rows: &Range<usize>,
     placed: &[u64],
     chunks: &[u64],
-) -> Verdict
-    requires { first + count ≤ room (size Table.fields) fields.now }
-    ensures { result ≡ verdict (feed_fields fields.now count first (world fresh placed.now chunks.now)) }
+) -> Result<(), Refused>
+    requires { rows.now.end ≤ room (size Table.fields) fields.now }
+    ensures { judgement result ≡ verdict (feed_fields fields.now (rows.now.end - rows.now.start) rows.now.start (world fresh placed.now chunks.now)) }
 {
-    let end = first + count;
     let mut a = Aligner::new();
-    let mut place = first;
-    let mut i = first;
-    while i < end {
-        let c = judge_field(field_request(fields, i), a, placed, chunks);
-        if c.number != 0 {
-            return Verdict {
-                number: c.number,
-                place: i,
-            };
-        }
+    let mut place = rows.start;
+    for i in rows.start..rows.end {
+        let next = judge_field(fields, i, a, placed, chunks).map_err(|refusal| Refused {
+            refusal,
+            place: i,
+        })?;
         place = first_staged(a, place, i);
-        a = c.state;
-        i += 1;
+        a = next;
     }
-    let e = alignment::align(a, placed, chunks);
-    if e.number != 0 {
-        return Verdict {
-            number: e.number,
+    match alignment::align(a, placed, chunks) {
+        Ok(_) => Ok(()),
+        Err(refusal) => Err(Refused {
+            refusal: Refusal::Aligner(refusal),
             place,
-        };
-    }
-    Verdict {
-        number: 0,
-        place: 0,
+        }),
     }
 }
