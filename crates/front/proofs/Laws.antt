@@ -1,19 +1,10 @@
 -- What an entry answers, from what the function that it calls answers.
 use Prim.Native.Nat.{ℕ}
 use mathlib.Core.Path.{◌≡◌, ap, ◌∙◌}
-use mathlib.Core.List.{List, [], ◌∷◌}
+use mathlib.Core.List.{List}
 use lib.ListN.{length}
 use Rattle.meaning.specs.Reading.{name_number, name_text}
-use Rattle.meaning.specs.Feeding.{Layout}
-use Rattle.layout.specs.declared.Layout.{Layout as Laid}
-use Rattle.layout.specs.Judging.{answered}
-use Rattle.front.specs.Layouts.{left, laying}
 use Rattle.front.specs.Names.{named, naming, over}
-
--- the place and the counts go as three words
-pub laid_on : (r : Laid) (ps cs : List ℕ) (x : Layout) → answered r ps cs ≡ x
-    → left r.number (r.place ∷ r.placed ∷ r.chunks ∷ []) ps cs ≡ laying x
-laid_on r ps cs x e = ap laying e
 
 -- the text s of a name goes over the front of t
 pub named_on : (src : List ℕ) (o n : ℕ) (s t t' : List ℕ) (r : ℕ) → s ≡ name_text src o n → t' ≡ over s t → r ≡ name_number src o n

@@ -17,7 +17,14 @@ pub extern "C" fn pdl_layout(
     ensures { left result answer.new placed.new chunks.new
         ≡ laying (layout declarations.now fields.now index placed.old chunks.old) }
 {
-    let r = layout::lay_out(declarations, fields, index, placed, chunks);
-    *answer = [r.place as u64, r.placed as u64, r.chunks as u64];
-    r.number
+    match layout::lay_out(declarations, fields, index, placed, chunks) {
+        Ok(laid) => {
+            *answer = [0, laid.placed as u64, laid.chunks as u64];
+            0
+        }
+        Err(refused) => {
+            *answer = [refused.place as u64, 0, 0];
+            refused.refusal.number()
+        }
+    }
 }

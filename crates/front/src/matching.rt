@@ -1,8 +1,7 @@
 // The matchers of the rules, by the rules' numbers: their places in the printed order. They stand in groups, and each group
-// hands a number above its own on to the next.
+// hands a number above its own on to the next: C names a rule by its number, and one match of sixty arms is too long a function.
 ghost use Rattle.std.specs.Prelude.{◌≡◌, ◌≤◌, ◌<◌};
 ghost use Rattle.meaning.specs.Peg.{run, bytewise};
-ghost use Rattle.meaning.specs.Pdl.{EOI};
 ghost use Rattle.grammar.specs.Matching.{Within, Reads};
 ghost use Rattle.lexis.specs.Classes.{one_of};
 ghost use Rattle.front.specs.Numbers.{ruled, extent};
@@ -12,7 +11,7 @@ use fields::kinds;
 use lexis::bytes::Class;
 use lexis::{blanks, tokens};
 use meaning::Match;
-use spans::{DescMatch, TagMatch};
+use spans::{FieldDesc, Matched, Tag};
 
 // How much m took, plus 1; 0 where it missed.
 fn extent(s: &[u8], m: Match) -> usize
@@ -29,23 +28,10 @@ fn extent(s: &[u8], m: Match) -> usize
 fn one(s: &[u8], class: Class) -> usize
     ensures { result ≡ extent (run (bytewise (one_of class)) s.now) }
 {
-    if s.len() == 0 {
-        return 0;
+    match s {
+        [first, ..] if lexis::bytes::in_class(class, *first) => 2,
+        _ => 0,
     }
-    if lexis::bytes::in_class(class, s[0]) {
-        return 2;
-    }
-    0
-}
-
-// The end of input.
-fn end_of_input(s: &[u8]) -> Match
-    ensures { Reads EOI s.now result }
-{
-    if s.len() == 0 {
-        return Match::Took(0, 0);
-    }
-    Match::Missed(1)
 }
 
 // The end of input, the whitespace and the comments.
@@ -54,7 +40,7 @@ fn blank(rule: u64, s: &[u8]) -> Match
     ensures { Reads (ruled rule) s.now result }
 {
     match rule {
-        0 => end_of_input(s),
+        0 => files::end_of_input(s),
         1 => tokens::whitespace(s),
         2 => blanks::comment(s),
         3 => blanks::block_comment(s),
@@ -77,16 +63,13 @@ fn declaration(rule: u64, s: &[u8]) -> Match
         56 => tests::test_case_list(s),
         57 => tests::test_declaration(s),
         58 => declarations::declaration(s),
-        59 => {
-            let f = files::file(s);
-            f.at
-        }
+        59 => files::file(s).at,
         _ => Match::Missed(0),
     }
 }
 
 // The descriptions of fields. The answer is handed on whole, so that no function holds several of so wide a type.
-fn description(rule: u64, s: &[u8]) -> DescMatch
+fn description(rule: u64, s: &[u8]) -> Matched<FieldDesc>
     requires { (34 ≤ rule) × (rule < 48) }
     ensures { Reads (ruled rule) s.now result.at }
 {
@@ -114,21 +97,17 @@ fn field(rule: u64, s: &[u8]) -> Match
     ensures { Reads (ruled rule) s.now result }
 {
     if rule < 48 {
-        let d = description(rule, s);
-        return d.at;
+        return description(rule, s).at;
     }
     match rule {
-        48 => {
-            let f = fields::field(s);
-            f.at
-        }
+        48 => fields::field(s).at,
         49 => fields::field_list(s),
         _ => declaration(rule, s),
     }
 }
 
 // The tags of an enum, whose answers are wide too.
-fn tag(rule: u64, s: &[u8]) -> TagMatch
+fn tag(rule: u64, s: &[u8]) -> Matched<Tag>
     requires { (25 ≤ rule) × (rule < 30) × (rule ≡ 26 → ⊥) }
     ensures { Reads (ruled rule) s.now result.at }
 {
@@ -153,15 +132,9 @@ fn member(rule: u64, s: &[u8]) -> Match
         26 => tags::enum_value_list(s),
         30 => tags::enum_tag_list(s),
         31 => declarations::enum_declaration(s),
-        32 => {
-            let c = constraints::constraint(s);
-            c.at
-        }
+        32 => constraints::constraint(s).at,
         33 => constraints::constraint_list(s),
-        _ => {
-            let t = tag(rule, s);
-            t.at
-        }
+        _ => tag(rule, s).at,
     }
 }
 

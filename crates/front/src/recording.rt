@@ -1,10 +1,11 @@
 // The aligner's calls on a lent state, over a table of chunk records.
 ghost use Rattle.std.specs.Prelude.{◌≡◌};
 ghost use Rattle.meaning.specs.Alignment.{world, call, add_bitfield, add_bytes, add_dyn_bytes};
-ghost use Rattle.byte_aligner.specs.Answers.{answered, finished, align_at};
+ghost use Rattle.byte_aligner.specs.Answers.{answered, ending, align_at};
 ghost use Rattle.byte_aligner.specs.Records.{flat};
+ghost use Rattle.front.specs.Endings.{end_crossed};
 
-use alignment::Ended;
+use crate::aligning::{Ended, number_of};
 use byte_aligner::Chunk;
 use meaning::Aligner;
 
@@ -20,7 +21,7 @@ pub extern "C" fn pdl_add_bitfield_to(
     ensures { answered result state.new placed.new (flat chunks.new)
         ≡ call (add_bitfield symbol width) (world state.old placed.old (flat chunks.old)) }
 {
-    byte_aligner::add_bitfield_to(state, placed, chunks, symbol, width)
+    number_of(byte_aligner::add_bitfield_to(state, placed, chunks, symbol, width))
 }
 
 // Adds bytes of a known width: the number of the refusal, or 0.
@@ -35,7 +36,7 @@ pub extern "C" fn pdl_add_bytes_to(
     ensures { answered result state.new placed.new (flat chunks.new)
         ≡ call (add_bytes symbol width) (world state.old placed.old (flat chunks.old)) }
 {
-    byte_aligner::add_bytes_to(state, placed, chunks, symbol, width)
+    number_of(byte_aligner::add_bytes_to(state, placed, chunks, symbol, width))
 }
 
 // Adds bytes of an unknown width: the number of the refusal, or 0.
@@ -49,13 +50,13 @@ pub extern "C" fn pdl_add_dyn_bytes_to(
     ensures { answered result state.new placed.new (flat chunks.new)
         ≡ call (add_dyn_bytes symbol) (world state.old placed.old (flat chunks.old)) }
 {
-    byte_aligner::add_dyn_bytes_to(state, placed, chunks, symbol)
+    number_of(byte_aligner::add_dyn_bytes_to(state, placed, chunks, symbol))
 }
 
 // Ends an alignment: the number of the refusal, or 0, and the chunk count, 0 where refused.
 #[unsafe(no_mangle)]
 pub extern "C" fn pdl_align_to(state: &mut Aligner, placed: &[u64], chunks: &[Chunk]) -> Ended
-    ensures { finished result state.new ≡ align_at state.old placed.now (flat chunks.now) }
+    ensures { ending (end_crossed result) state.new ≡ align_at state.old placed.now (flat chunks.now) }
 {
-    byte_aligner::align_to(state, placed, chunks)
+    Ended::from(byte_aligner::align_to(state, placed, chunks))
 }

@@ -26,11 +26,21 @@ pub extern "C" fn pdl_read(
         (answer s.now (lending declarations.old fields.old tags.old constraints.old
         comments.old)) }
 {
-    let r = reading::read(s, declarations, fields, tags, constraints, comments);
-    let rows = r.counts;
-    let line = r.endianness;
-    *refusal = [r.place, r.reason];
-    *counts = rows;
-    *endianness = line;
-    r.number
+    match reading::read(s, declarations, fields, tags, constraints, comments) {
+        Ok(reading) => {
+            // The borrow check takes an array out of a field only by a variable.
+            let rows = reading.counts;
+            let line = reading.endianness;
+            *refusal = [0, 0];
+            *counts = rows;
+            *endianness = line;
+            0
+        }
+        Err(refused) => {
+            *refusal = [refused.place(), refused.reason()];
+            *counts = [0; 5];
+            *endianness = [0; numbers::ENDIANNESS_WORDS];
+            refused.number()
+        }
+    }
 }

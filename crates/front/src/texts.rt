@@ -28,14 +28,8 @@ pub extern "C" fn pdl_convert(s: &[u8], value: &mut u64) -> u64
 fn write_over(s: &[u8], t: &mut [u8])
     ensures { t.new ≡ over s.now t.old }
 {
-    let mut i: usize = 0;
-    while i < s.len() {
-        if t.len() <= i {
-            return;
-        }
-        t[i] = s[i];
-        i += 1;
-    }
+    let n = s.len().min(t.len());
+    t[..n].copy_from_slice(&s[..n]);
 }
 
 // The text of a name, over the front of lent bytes: the number of the refusal, or 0; the length of the text goes to count.

@@ -14,3 +14,4 @@ pub mod Rooms
 pub mod Promises
 pub mod WrongReaders
 pub mod Settled
+pub mod Refusals

@@ -1,42 +1,42 @@
 -- What the checks before any writing say: a reading's refusal, or the rows that each table needs, and the first table that
 -- lacks some.
-use Rattle.std.specs.Prelude.{ℕ, ◌/◌, ◌≡◌, List, get_or, ltb}
+use Rattle.std.specs.Prelude.{ℕ, ◌-◌, ◌≡◌, List, [], ◌∷◌, get_or, ltb, Result, Ok, Err}
 use Rattle.meaning.specs.Choice.{pick}
-use Rattle.meaning.specs.Tables.{Table, number, size, count, Lent}
-use Rattle.meaning.specs.Reading.{Reading, refused, accepted}
-use Rattle.reading.specs.declared.Survey.{Survey}
-use Rattle.reading.specs.declared.Short.{Short}
+use Rattle.meaning.specs.Tables.{Table, number, size, room, Lent, lent, all}
+use Rattle.meaning.specs.Reading.{Reading, refused, accepted, zeros, counted}
+use Rattle.reading.specs.declared.refusals.Refusal.{Refusal}
+use Rattle.reading.specs.declared.refusals.Refusal.TheVariants.{TooFewRows}
+use Rattle.ast.specs.declared.tables.Table.{Table as Code}
+use Rattle.ast.specs.Tables.{meant, named}
+use Rattle.reading.specs.Refusals.{number_of, place_of, reason_of}
+
+-- a refusal's number, place and reason, or else no number and the rows that each table needs
+pub record Survey : Type 0 where
+  pub number : ℕ
+  pub place : ℕ
+  pub reason : ℕ
+  pub counts : List ℕ
 
 abbrev pub surveyed : Reading → Survey
-surveyed (refused n p r) =
-    record { number = n; place = p; reason = r; declarations = 0; fields = 0; tags = 0; constraints = 0; comments = 0 }
-surveyed (accepted e xs) =
-    record {
-      number = 0;
-      place = 0;
-      reason = 0;
-      declarations = count Table.declarations xs;
-      fields = count Table.fields xs;
-      tags = count Table.tags xs;
-      constraints = count Table.constraints xs;
-      comments = count Table.comments xs;
-    }
+surveyed (refused n p r) = record { number = n; place = p; reason = r; counts = zeros 5 }
+surveyed (accepted e xs) = record { number = 0; place = 0; reason = 0; counts = counted all xs }
+
+abbrev pub survey : Result (List ℕ) Refusal → Survey
+survey (Ok k) = record { number = 0; place = 0; reason = 0; counts = k }
+survey (Err e) = record { number = number_of e; place = place_of e; reason = reason_of e; counts = zeros 5 }
 
 -- x tells the reading y, and the tables are as they were lent
-pub record Surveyed (y : Reading) (x : Survey) (a b : Lent) : Type 0 where
-  pub is : x ≡ surveyed y
+pub record Surveyed (y : Reading) (x : Result (List ℕ) Refusal) (a b : Lent) : Type 0 where
+  pub is : survey x ≡ surveyed y
   pub same : b ≡ a
 
--- the table lacks some of the rows needed; or else what the others say
-abbrev pub lacks : Table → ℕ → ℕ → Short → Short
-lacks t length needed else = pick (ltb (length / size t) needed) (record { table = number t; needed = needed }) else
+-- ---- the room of a table against the rows needed
+abbrev pub room_for : Code → List ℕ → ℕ → Result (Unit {0}) Refusal
+room_for t words needed = pick (ltb (room (size (meant t)) words) needed) (Err (TooFewRows t needed)) (Ok tt)
 
--- the lengths of the tables are in words
-abbrev pub short_of : Survey → List ℕ → Short
-short_of x l =
-    lacks Table.declarations (get_or l 0 0) x.declarations
-    (lacks Table.fields (get_or l 1 0) x.fields
-    (lacks Table.tags (get_or l 2 0) x.tags
-    (lacks Table.constraints (get_or l 3 0) x.constraints
-    (lacks Table.comments (get_or l 4 0) x.comments
-    (record { table = 0; needed = 0 })))))
+-- the first of some tables that lacks some rows; the counts go by the tables' numbers
+abbrev pub room_among : List Table → List ℕ → Lent → Result (Unit {0}) Refusal
+room_among [] counts l = Ok tt
+room_among (t ∷ ts) counts l =
+    let needed = get_or counts (number t - 1) 0 in
+    pick (ltb (room (size t) (lent t l)) needed) (Err (TooFewRows (named t) needed)) (room_among ts counts l)

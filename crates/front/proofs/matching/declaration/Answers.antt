@@ -31,7 +31,7 @@ pub returns-in-58 : goal.returns-in-58
 returns-in-58 c = numbered 58 c.in-58.is c.declaration.ensures
 
 pub returns-in-59 : goal.returns-in-59
-returns-in-59 c = numbered 59 c.in-59.is c.file-f.ensures.reads
+returns-in-59 c = numbered 59 c.in-59.is c.file.ensures.reads
 
 pub returns-in_default : goal.returns-in_default
 returns-in_default c = beyond _ _ (omega (arith, c.requires))

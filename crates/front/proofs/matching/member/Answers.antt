@@ -15,7 +15,7 @@ pub returns-in-31 : goal.returns-in-31
 returns-in-31 c = numbered 31 c.in-31.is c.enum_declaration.ensures
 
 pub returns-in-32 : goal.returns-in-32
-returns-in-32 c = numbered 32 c.in-32.is c.constraint-c.ensures.drawn.reads
+returns-in-32 c = numbered 32 c.in-32.is c.constraint.ensures.drawn.reads
 
 pub returns-in-33 : goal.returns-in-33
 returns-in-33 c = numbered 33 c.in-33.is c.constraint_list.ensures

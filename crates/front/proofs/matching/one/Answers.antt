@@ -1,14 +1,13 @@
 -- `one` meets its contract: by the class of the first byte.
+use Rattle.std.proofs.Common.{arith}
 use Rattle.front.proofs.MatchLaws.{one_none, one_is, one_not}
 use Rattle.front.proofs.matching.one.Goals as goal
 
-pub returns-then-s-eq0 : goal.returns-then-s-eq0
-returns-then-s-eq0 c = one_none c.args.class c.args.s.now c.if-s-eq0.true
+pub returns-in-len1-up : goal.returns-in-len1-up
+returns-in-len1-up c = one_is _ _ _ (λ z. omega (arith, z, c.in-len1-up.len_at_least)) c.in_class.ensures c.if-in_class.true
 
-pub returns-then-in_class : goal.returns-then-in_class
-returns-then-in_class c = one_is c.args.class c.args.s.now _
-    c.if-s-eq0.false c.in_class.ensures c.if-in_class.true
+pub returns-in_default : goal.returns-in_default
+returns-in_default c = one_none _ _ (omega (arith, c.in_default.len_below))
 
-pub returns : goal.returns
-returns c = one_not c.args.class c.args.s.now _
-    c.if-s-eq0.false c.in_class.ensures c.if-in_class.false
+pub returns-in_default-2 : goal.returns-in_default-2
+returns-in_default-2 c = one_not _ _ _ (λ z. omega (arith, z, c.in-len1-up.len_at_least)) c.in_class.ensures c.if-in_class.false
