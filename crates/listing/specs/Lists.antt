@@ -1,10 +1,9 @@
 -- What the programs list of a source: at most 16,384 bytes of it, over tables of 40, 100, 100, 60 and 100 rows (01, at P3).
-use Rattle.std.specs.Prelude.{ℕ, ◌*◌, ◌≡◌, List, ltb, eqb, length, get_or, replicate}
+use Rattle.std.specs.Prelude.{ℕ, ◌*◌, List, ltb, eqb, length, get_or, replicate}
 use Rattle.meaning.specs.Choice.{pick}
 use Rattle.meaning.specs.Tables.{Table, size, Lent}
 use Rattle.meaning.specs.Reading.{Outcome, answer}
-use Rattle.io.specs.Counts.{IsPrefixLen}
-use Rattle.printing.specs.Pages.{Wrote, wrote_settled}
+use Rattle.printing.specs.declared.answers.Tables as printed
 use Rattle.printing.specs.Answers.{refusal, answered}
 use Rattle.printing.specs.Layouts.{layouts}
 use Rattle.listing.specs.declared.Wanted.{Wanted}
@@ -24,6 +23,11 @@ empty =
       w5 = replicate (100 * size Table.comments) 0;
     }
 
+-- what stands in the tables that a page is written from
+abbrev pub left : printed.Tables → Lent
+left t =
+    record { w1 = t.declarations.now; w2 = t.fields.now; w3 = t.tags.now; w4 = t.constraints.now; w5 = t.comments.now }
+
 -- the layouts of an accepted source; the refusal of any other
 unfoldable pub laid_out : Outcome → List ℕ
 laid_out o =
@@ -36,12 +40,3 @@ lines_of Layouts o = laid_out o
 
 unfoldable pub listed : Wanted → List ℕ → List ℕ
 listed wanted src = pick (ltb longest (length src)) (refusal 1 longest 0) (lines_of wanted (answer src empty))
-
--- what a function promises that lists a text from the page's start on: the page as it is left, and a count of its bytes
-pub record Lists (text before : List ℕ) (r : ℕ) (after : List ℕ) : Type 0 where
-  pub wrote : Wrote text 0 before r after
-  pub count : IsPrefixLen r after
-
--- no two pages satisfy it
-pub lists_settled : {text before : List ℕ} {r s : ℕ} {b c : List ℕ} → Lists text before r b → Lists text before s c → (r ≡ s) × (b ≡ c)
-lists_settled x y = wrote_settled x.wrote y.wrote

@@ -3,13 +3,16 @@
 #![tactic(auto)]
 
 ghost use Rattle.std.specs.Prelude.{◌+◌, ◌≡◌, length, replicate};
-ghost use Rattle.reading.specs.Outcomes.{outcome};
-ghost use Rattle.listing.specs.Lists.{longest, lines_of, listed, Lists};
+ghost use Rattle.printing.specs.Pages.{Wrote};
+ghost use Rattle.printing.specs.Answers.{refusal};
+ghost use Rattle.reading.specs.Outcomes.{leaving};
+ghost use Rattle.reading.specs.Refusals.{number_of, place_of, reason_of};
+ghost use Rattle.listing.specs.Lists.{longest, left, lines_of, listed};
 
 use ast::numbers;
-use printing::answers::{put_reading, put_refusal};
-use printing::layouts::put_layouts;
-use reading::Answer;
+use printing::answers::Tables;
+use printing::pages::Page;
+use reading::{Reading, Refusal};
 
 // The longest source that the programs take, in bytes.
 const LONGEST: usize = 16384;
@@ -28,54 +31,40 @@ pub fn empty_page() -> [u8; 131072]
     [0; 131072]
 }
 
-// The lines of what was read, on an empty page; the answer is how many bytes they take.
-fn put_answer(
-    r: Answer,
-    wanted: Wanted,
-    page: &mut [u8],
-    declarations: &[u64],
-    fields: &[u64],
-    tags: &[u64],
-    constraints: &[u64],
-    comments: &[u64],
-) -> usize
-    ensures { Lists (lines_of wanted (outcome r declarations.now fields.now tags.now
-        constraints.now comments.now)) page.old result page.new }
+// The line of a refusal.
+fn put_refused(page: &mut Page, why: Refusal)
+    ensures { Wrote (refusal (number_of why) (place_of why) (reason_of why)) page.old page.new }
 {
-    if r.number != 0 {
-        return put_refusal(page, 0, r.number, r.place, r.reason);
-    }
-    let counts = r.counts;
-    let endianness = r.endianness;
-    match wanted {
-        Wanted::Tables => put_reading(
-            page,
-            0,
-            endianness,
-            counts,
-            declarations,
-            fields,
-            tags,
-            constraints,
-            comments,
-        ),
-        Wanted::Layouts => put_layouts(page, 0, counts[0], declarations, fields),
+    page.put_refusal(why.number(), why.place(), why.reason());
+}
+
+// The lines of what was read.
+fn put_answer(answer: Result<Reading, Refusal>, wanted: Wanted, t: &Tables, page: &mut Page)
+    ensures { Wrote (lines_of wanted (leaving answer (left t.now))) page.old page.new }
+{
+    match answer {
+        Err(why) => put_refused(page, why),
+        Ok(reading) => match wanted {
+            Wanted::Tables => page.put_reading(reading.endianness, reading.counts, t),
+            Wanted::Layouts => page.put_layouts(reading.counts[0], t.declarations, t.fields),
+        },
     }
 }
 
-// The lines of a source on an empty page; the answer is how many bytes they take.
-pub fn put_source(src: &[u8], wanted: Wanted, page: &mut [u8]) -> usize
-    ensures { Lists (listed wanted src.now) page.old result page.new }
+// The lines of a source.
+pub fn put_source(src: &[u8], wanted: Wanted, page: &mut Page)
+    ensures { Wrote (listed wanted src.now) page.old page.new }
 {
     if LONGEST < src.len() {
-        return put_refusal(page, 0, numbers::TOO_LONG, LONGEST as u64, 0);
+        put_refused(page, Refusal::TooLong(LONGEST));
+        return;
     }
     let mut declarations = [0u64; 40 * numbers::DECLARATION_WORDS];
     let mut fields = [0u64; 100 * numbers::FIELD_WORDS];
     let mut tags = [0u64; 100 * numbers::TAG_WORDS];
     let mut constraints = [0u64; 60 * numbers::CONSTRAINT_WORDS];
     let mut comments = [0u64; 100 * numbers::COMMENT_WORDS];
-    let r = reading::read(
+    let answer = reading::read(
         src,
         &mut declarations,
         &mut fields,
@@ -83,16 +72,14 @@ pub fn put_source(src: &[u8], wanted: Wanted, page: &mut [u8]) -> usize
         &mut constraints,
         &mut comments,
     );
-    put_answer(
-        r,
-        wanted,
-        page,
-        &declarations,
-        &fields,
-        &tags,
-        &constraints,
-        &comments,
-    )
+    let tables = Tables {
+        declarations: &declarations,
+        fields: &fields,
+        tags: &tags,
+        constraints: &constraints,
+        comments: &comments,
+    };
+    put_answer(answer, wanted, &tables, page);
 }
 
 // Room for one byte more than the longest source, so that a longer one is seen to be too long.
@@ -106,7 +93,8 @@ fn source_room() -> [u8; LONGEST + 1]
 pub fn print_input(wanted: Wanted) {
     let mut source = source_room();
     let n = io::read_full(0, &mut source);
-    let mut page = empty_page();
-    let end = put_source(&source[..n], wanted, &mut page);
-    io::write_all(1, &page[..end]);
+    let mut bytes = empty_page();
+    let mut page = Page::new(&mut bytes);
+    put_source(&source[..n], wanted, &mut page);
+    io::write_all(1, page.written());
 }

@@ -4,6 +4,7 @@ use Rattle.meaning.specs.Choice.{pick}
 use Rattle.meaning.specs.Tables.{Table, size}
 use Rattle.meaning.specs.Reading.{Outcome}
 use Rattle.printing.specs.Lines.{line, lines}
+use Rattle.printing.specs.declared.answers.Tables as lent
 
 -- R
 abbrev pub refusal : ℕ → ℕ → ℕ → List ℕ
@@ -21,6 +22,13 @@ tables counts ds fs ts cs ms =
 -- E, and the rows behind it
 abbrev pub reading : List ℕ → List ℕ → List ℕ → List ℕ → List ℕ → List ℕ → List ℕ → List ℕ
 reading endianness counts ds fs ts cs ms = line 69 endianness ++ tables counts ds fs ts cs ms
+
+-- the same of lent tables
+abbrev pub tables_of : List ℕ → lent.Tables → List ℕ
+tables_of counts t = tables counts t.declarations.now t.fields.now t.tags.now t.constraints.now t.comments.now
+
+abbrev pub reading_of : List ℕ → List ℕ → lent.Tables → List ℕ
+reading_of endianness counts t = reading endianness counts t.declarations.now t.fields.now t.tags.now t.constraints.now t.comments.now
 
 -- the lines of an outcome
 unfoldable pub answered : Outcome → List ℕ

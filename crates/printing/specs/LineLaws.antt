@@ -1,8 +1,9 @@
 -- Laws of lines: the digits that the library spells are the number's, and a loop's next word and next row.
 use Rattle.std.specs.Prelude.{ℕ, zero, suc, ◌+◌, ◌-◌, ◌*◌, ◌/◌, ◌%◌, ◌^◌, ◌≤◌, ◌<◌, ◌≡◌, refl, List, [], ◌∷◌, ◌++◌, Bool, true, false, leb, length, get_or, take, drop}
-use Rattle.std.proofs.Common.{◌∙◌, mod-lt, mod-eq_of_lt, pow-suc, le-div_iff_mul-le, div-lt_iff_lt-mul, add-one, arith, length-drop, drop_of_length-le, drop-cons, drop-drop, lt-ltb, le-ltb, leb-true, leb-false}
+use Rattle.std.proofs.Common.{◌∙◌, mod-lt, mod-eq_of_lt, pow-suc, le-div_iff_mul-le, div-lt_iff_lt-mul, add-one, arith, drop_of_length-le, drop-cons, lt-ltb, le-ltb, leb-true, leb-false}
 use Rattle.std.proofs.Math.Nat.{one-le-pow, pow-le-pow_right}
 use Rattle.io.specs.Digits.{last_digits, hex_digit_ascii, IsDigitCount}
+use Rattle.printing.specs.declared.pages.Page as lent
 use Rattle.printing.specs.Pages.{Wrote}
 use Rattle.printing.specs.Lines.{digits_of, decimal, words, line, lines}
 
@@ -49,9 +50,9 @@ twenty n k small w = go (leb k 20) refl
         let low : 10 ^ (k - 1) ≤ n = w.2 (omega arith) in
         absurd (omega arith)
 
-pub number_wrote : (n k : ℕ) (ds : List ℕ) (at : ℕ) (p : List ℕ) (r : ℕ) (q : List ℕ)
-    → n < 2 ^ 64 → IsDigitCount 10 1 n k → take k ds ≡ last_digits 10 k n → Wrote (take k ds) at p r q → Wrote (decimal n) at p r q
-number_wrote n k ds at p r q small w e t = rw (e ∙ spelled 20 n k (twenty n k small w) w) at t
+pub number_wrote : (n k : ℕ) (ds : List ℕ) (p q : lent.Page)
+    → n < 2 ^ 64 → IsDigitCount 10 1 n k → take k ds ≡ last_digits 10 k n → Wrote (take k ds) p q → Wrote (decimal n) p q
+number_wrote n k ds p q small w e t = rw (e ∙ spelled 20 n k (twenty n k small w) w) at t
 
 -- the next word of a line
 pub next_word : (t : List ℕ) (i : ℕ) → i < length t → words (drop i t) ≡ (32 ∷ decimal (get_or t i 0)) ++ words (drop (i + 1) t)
@@ -62,26 +63,20 @@ pub no_word : (t : List ℕ) (i : ℕ) → length t ≤ i → words (drop i t) �
 unfolding words
 no_word t i h = rw (drop_of_length-le t h)
 
--- the next row of a table: its part of the words from base on
-pub next_row : (letter size left base : ℕ) (t : List ℕ) → 0 < left → base ≤ length t → size ≤ length t - base
-    → lines letter size left (drop base t) ≡ line letter (take (base + size - base) (drop base t)) ++ lines letter size (left - 1) (drop (base + size) t)
+-- the next row of a table
+pub next_row : (letter size count k : ℕ) (t : List ℕ) → k < count → size ≤ length t
+    → lines letter size (count - k) t ≡ line letter (take size t) ++ lines letter size (count - (k + 1)) (drop size t)
 unfolding lines
-next_row letter size zero base t z b h = absurd (omega arith)
-next_row letter size (suc k) base t z b h =
-    let e : base + size - base ≡ size = omega arith in
-    let p : suc k - 1 ≡ k = omega arith in
-    let l : size ≤ length (drop base t) = rw length-drop h in
-    rw (le-ltb (length (drop base t)) size l, e, p, drop-drop size base t)
+next_row letter size count k t h l =
+    let e : count - k ≡ suc (count - (k + 1)) = omega arith in
+    rw (e, le-ltb (length t) size l) refl
 
 -- no row is asked for, or the next does not fit whole
-pub no_row_asked : (letter size left : ℕ) (t : List ℕ) → left ≤ 0 → lines letter size left t ≡ []
+pub no_row_asked : (letter size count k : ℕ) (t : List ℕ) → count ≤ k → lines letter size (count - k) t ≡ []
 unfolding lines
-no_row_asked letter size zero t z = refl
-no_row_asked letter size (suc k) t z = absurd (omega arith)
+no_row_asked letter size count k t h = let e : count - k ≡ 0 = omega arith in rw e refl
 
-pub no_row_there : (letter size left base : ℕ) (t : List ℕ) → length t - base < size → lines letter size left (drop base t) ≡ []
+pub no_row_there : (letter size left : ℕ) (t : List ℕ) → length t < size → lines letter size left t ≡ []
 unfolding lines
-no_row_there letter size zero base t h = refl
-no_row_there letter size (suc k) base t h =
-    let l : length (drop base t) < size = rw length-drop h in
-    rw (lt-ltb (length (drop base t)) size l)
+no_row_there letter size zero t l = refl
+no_row_there letter size (suc k) t l = rw (lt-ltb (length t) size l) refl

@@ -1,7 +1,8 @@
 -- A page of bytes, of which the first stand there already, and what texts written behind them leave.
-use Rattle.std.specs.Prelude.{ℕ, ◌+◌, ◌≤◌, ◌≡◌, List, [], ◌∷◌, ltb, length, set}
+use Rattle.std.specs.Prelude.{ℕ, ◌+◌, ◌≡◌, List, [], ◌∷◌, ltb, length, set}
 use Rattle.std.proofs.Common.{ap, sym, ◌∙◌}
 use Rattle.meaning.specs.Choice.{pick}
+use Rattle.printing.specs.declared.pages.Page as lent
 
 -- bytes, of which so many stand there
 pub record Page : Type 0 where
@@ -20,17 +21,20 @@ unfoldable pub wrote : List ℕ → Page → Page
 wrote [] p = p
 wrote (b ∷ bs) p = wrote bs (put b p)
 
--- ---- what a function that writes a text promises
-pub record Wrote (text : List ℕ) (at : ℕ) (before : List ℕ) (r : ℕ) (after : List ℕ) : Type 0 where
-  pub is : page r after ≡ wrote text (page at before)
-  pub fits : at ≤ length before → r ≤ length after
+-- what stands on a lent page
+abbrev pub sheet : lent.Page → Page
+sheet p = page p.at p.bytes.now
+
+-- ---- what a method that writes a text promises: what stands on the page then, and that its bytes are those that were lent
+pub record Wrote (text : List ℕ) (before after : lent.Page) : Type 0 where
+  pub is : sheet after ≡ wrote text (sheet before)
+  pub same_bytes : after.bytes.ghost_name ≡ before.bytes.ghost_name
 
 -- no two pages satisfy it
-pub wrote_settled : {text : List ℕ} {at : ℕ} {before : List ℕ} {r s : ℕ} {b c : List ℕ} → Wrote text at before r b
-    → Wrote text at before s c → (r ≡ s) × (b ≡ c)
+pub wrote_settled : {text : List ℕ} {before p q : lent.Page} → Wrote text before p → Wrote text before q → (p.at ≡ q.at) × (p.bytes.now ≡ q.bytes.now)
 wrote_settled x y = (ap (λ (p : Page). p.used) (x.is ∙ sym y.is), ap (λ (p : Page). p.bytes) (x.is ∙ sym y.is))
 
 -- and what holds on the way, in a loop that writes a whole: what is left to write gives the whole
-pub record Left (rest whole : List ℕ) (at : ℕ) (before : List ℕ) (next : ℕ) (after : List ℕ) : Type 0 where
-  pub gives : wrote rest (page next after) ≡ wrote whole (page at before)
-  pub fits : at ≤ length before → next ≤ length after
+pub record Left (rest whole : List ℕ) (before after : lent.Page) : Type 0 where
+  pub gives : wrote rest (sheet after) ≡ wrote whole (sheet before)
+  pub same_bytes : after.bytes.ghost_name ≡ before.bytes.ghost_name

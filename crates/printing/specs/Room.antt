@@ -4,7 +4,8 @@ use Rattle.std.proofs.Common.{sym, ap, ◌∙◌, append-nil, add-one, arith, le
 use Rattle.std.proofs.Math.Seq.{append_snoc}
 use Rattle.meaning.specs.Choice.{pick}
 use Rattle.meaning.specs.Tables.{Table, size}
-use Rattle.printing.specs.Pages.{Page, page, put, wrote, Wrote}
+use Rattle.printing.specs.declared.pages.Page as lent
+use Rattle.printing.specs.Pages.{Page, page, put, wrote, sheet, Wrote}
 use Rattle.printing.specs.Lines.{digits_of, decimal, words, line, lines}
 use Rattle.printing.specs.Answers.{reading}
 
@@ -32,12 +33,15 @@ stands (b ∷ bs) p h =
     )
 
 -- the whole text, and nothing else, is what a function wrote that began with an empty page
-pub whole : (text before after : List ℕ) (r : ℕ) → Wrote text 0 before r after → length text ≤ length before → (r ≡ length text) × (take r after ≡ text)
-whole text before after r w h =
-    let s = stands text (page 0 before) (omega arith) in
-    let z : 0 + length text ≡ length text = omega arith in
-    let n : r ≡ 0 + length text = ap (λ (x : Page). x.used) w.is ∙ s.0 in
-    (n ∙ z, ap (λ (x : Page). take r x.bytes) w.is ∙ ap (λ (k : ℕ). take k (wrote text (page 0 before)).bytes) n ∙ s.1)
+pub whole : {text : List ℕ} {before after : lent.Page} → Wrote text before after → before.at ≡ 0 → length text ≤ length before.bytes.now
+    → (after.at ≡ length text) × (take after.at after.bytes.now ≡ text)
+whole {text} {before} {after} w z h =
+    let s = stands text (sheet before) (omega arith) in
+    let n : after.at ≡ before.at + length text = ap (λ (x : Page). x.used) w.is ∙ s.0 in (
+      omega arith,
+      ap (λ (x : Page). take after.at x.bytes) w.is ∙ ap (λ (k : ℕ). take k (wrote text (sheet before)).bytes) n ∙ s.1
+          ∙ ap (λ (k : ℕ). take k before.bytes.now ++ text) z,
+    )
 
 -- ---- the room of lines
 pub digits_room : (f n : ℕ) → length (digits_of f n) ≤ f

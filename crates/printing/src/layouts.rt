@@ -1,57 +1,59 @@
 // The lines of layouts: L for each declaration that can be laid out, P for its placed fields, K for its chunks.
+ghost use Rattle.std.specs.Prelude.{◌≡◌, [], nat_eq};
 ghost use Rattle.printing.specs.Pages.{Wrote};
-ghost use Rattle.printing.specs.Layouts.{laid, layout_of, layouts};
+ghost use Rattle.layout.specs.Judging.{answered};
+ghost use Rattle.printing.specs.Layouts.{answer_words, laid, layout_of, layouts};
 
-use crate::lines::{put_line, put_lines};
+use crate::pages::Page;
 use ast::numbers;
+use layout::{Layout, Refusal, Refused};
 
-// A layout's line, and those of its rows: row, number, place, reason, placed rows, chunk rows.
-fn put_laid(page: &mut [u8], at: usize, answer: [u64; 6], placed: &[u64], chunks: &[u64]) -> usize
-    ensures { Wrote (laid answer placed.now chunks.now) at page.old result page.new }
+// The words of a layout's line: row, number, place, reason, placed rows, chunk rows.
+fn layout_words(k: u64, outcome: Result<Layout, Refused>) -> [u64; 6]
+    ensures { result ≡ answer_words k (answered outcome [] []) }
 {
-    let l = put_line(page, at, b'L', &answer);
-    let p = put_lines(page, l, b'P', numbers::PLACED_WORDS, answer[4], placed);
-    put_lines(page, p, b'K', numbers::CHUNK_WORDS, answer[5], chunks)
+    match outcome {
+        Ok(laid) => [k, 0, 0, 0, laid.placed as u64, laid.chunks as u64],
+        Err(refused) => [k, refused.refusal.number(), refused.place as u64, 0, 0, 0],
+    }
 }
 
-// The layout of a declaration row, none where it is no packet, struct or group.
-fn put_layout(page: &mut [u8], at: usize, k: usize, declarations: &[u64], fields: &[u64]) -> usize
-    ensures { Wrote (layout_of declarations.now fields.now k) at page.old result page.new }
+// Whether there is nothing to lay out: the declaration is no packet, struct or group.
+fn is_unlaid(outcome: Result<Layout, Refused>) -> bool
+    ensures { result ≡ nat_eq (answered outcome [] []).number 15 }
 {
-    let mut placed = [0u64; 100 * numbers::PLACED_WORDS];
-    let mut chunks = [0u64; 100 * numbers::CHUNK_WORDS];
-    let r = layout::lay_out(declarations, fields, k, &mut placed, &mut chunks);
-    if r.number == numbers::NO_SUCH_DECLARATION {
-        return at;
-    }
-    let answer = [
-        k as u64,
-        r.number,
-        r.place as u64,
-        0,
-        r.placed as u64,
-        r.chunks as u64,
-    ];
-    put_laid(page, at, answer, &placed, &chunks)
+    matches!(outcome, Err(refused) if refused.refusal == Refusal::NoSuchDeclaration)
 }
 
-// The layouts of the first declaration rows, in row order.
-pub fn put_layouts(
-    page: &mut [u8],
-    at: usize,
-    count: u64,
-    declarations: &[u64],
-    fields: &[u64],
-) -> usize
-    ensures { Wrote (layouts declarations.now fields.now count 0) at page.old result page.new }
-{
-    let mut next = at;
-    let mut left = count;
-    let mut k: usize = 0;
-    while 0 < left {
-        next = put_layout(page, next, k, declarations, fields);
-        left -= 1;
-        k += 1;
+impl Page<'_> {
+    // A layout's line, and those of its rows.
+    fn put_laid(&mut self, answer: [u64; 6], placed: &[u64], chunks: &[u64])
+        ensures { Wrote (laid answer placed.now chunks.now) self.old self.new }
+    {
+        self.put_line(b'L', &answer);
+        self.put_lines(b'P', numbers::PLACED_WORDS, answer[4], placed);
+        self.put_lines(b'K', numbers::CHUNK_WORDS, answer[5], chunks);
     }
-    next
+
+    // The layout of a declaration row, none where it is no packet, struct or group.
+    fn put_layout(&mut self, k: usize, declarations: &[u64], fields: &[u64])
+        ensures { Wrote (layout_of declarations.now fields.now k) self.old self.new }
+    {
+        let mut placed = [0u64; 100 * numbers::PLACED_WORDS];
+        let mut chunks = [0u64; 100 * numbers::CHUNK_WORDS];
+        let outcome = layout::lay_out(declarations, fields, k, &mut placed, &mut chunks);
+        if is_unlaid(outcome) {
+            return;
+        }
+        self.put_laid(layout_words(k as u64, outcome), &placed, &chunks);
+    }
+
+    // The layouts of the first declaration rows, in row order.
+    pub fn put_layouts(&mut self, count: u64, declarations: &[u64], fields: &[u64])
+        ensures { Wrote (layouts declarations.now fields.now count 0) self.old self.new }
+    {
+        for k in 0..count {
+            self.put_layout(k as usize, declarations, fields);
+        }
+    }
 }

@@ -1,27 +1,49 @@
-// Bytes on a lent page, behind those that stand there. A full page takes no more.
-ghost use Rattle.std.specs.Prelude.{[], ◌∷◌};
-ghost use Rattle.printing.specs.Pages.{Wrote};
+// Lent pages, and bytes on them behind those that stand there. A full page takes no more.
+ghost use Rattle.std.specs.Prelude.{[], ◌∷◌, ◌≡◌, ◌≤◌, length, take};
 
-// One byte behind the first at bytes of the page; the answer is where the next one goes.
-pub fn put_byte(page: &mut [u8], at: usize, b: u8) -> usize
-    ensures { Wrote (b ∷ []) at page.old result page.new }
-{
-    if at < page.len() {
-        page[at] = b;
-        return at + 1;
-    }
-    at
+// A lent page, and the place where the next byte goes.
+#[derive(Drop)]
+pub struct Page<'a> {
+    bytes: &'a mut [u8],
+    at: usize,
+    ghost inside: { at ≤ length bytes.now },
 }
 
-// A text.
-pub fn put_bytes(page: &mut [u8], at: usize, text: &[u8]) -> usize
-    ensures { Wrote text.now at page.old result page.new }
-{
-    let mut next = at;
-    let mut i: usize = 0;
-    while i < text.len() {
-        next = put_byte(page, next, text[i]);
-        i += 1;
+impl<'a> Page<'a> {
+    ghost use Rattle.printing.specs.Pages.{Wrote};
+
+    // A page on which nothing stands yet.
+    pub fn new(bytes: &'a mut [u8]) -> Page<'a>
+        ensures same_bytes { result.bytes.ghost_name ≡ bytes.entry.ghost_name }
+        ensures as_lent { result.bytes.now ≡ bytes.old }
+        ensures empty { result.at ≡ 0 }
+    {
+        Page { bytes, at: 0 }
     }
-    next
+
+    // What stands there.
+    pub fn written(&self) -> &[u8]
+        ensures { result.now ≡ take self.now.at self.now.bytes.now }
+    {
+        &self.bytes[..self.at]
+    }
+
+    // One byte.
+    pub fn put_byte(&mut self, b: u8)
+        ensures { Wrote (b ∷ []) self.old self.new }
+    {
+        if self.at < self.bytes.len() {
+            self.bytes[self.at] = b;
+            self.at += 1;
+        }
+    }
+
+    // A text.
+    pub fn put_bytes(&mut self, text: &[u8])
+        ensures { Wrote text.now self.old self.new }
+    {
+        for &b in text {
+            self.put_byte(b);
+        }
+    }
 }

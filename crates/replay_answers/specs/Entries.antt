@@ -1,19 +1,8 @@
 -- The lines before the entries of a list, and an entry: its text, and where its parts stand.
-use Rattle.std.specs.Prelude.{ℕ, suc, ◌+◌, ◌-◌, ◌≤◌, ◌<◌, ◌≡◌, refl, List, [], ◌∷◌, ◌++◌, Bool, true, false, not, eqb, length, get_or, take, drop}
-use Rattle.std.proofs.Common.{sym}
+use Rattle.std.specs.Prelude.{ℕ, suc, ◌+◌, ◌-◌, ◌≤◌, ◌<◌, ◌≡◌, List, [], ◌∷◌, ◌++◌, Bool, not, eqb, length, get_or, take, drop}
 use Rattle.meaning.specs.Choice.{pick, both}
 use Rattle.printing.specs.Lines.{line}
 use Rattle.replay_answers.specs.declared.entries.Entry.{Entry}
-
--- an answer is true exactly where a fact holds
-abbrev pub Tells : Bool → Type 0 → Type 0
-Tells r fact = (r ≡ true → fact) × (fact → r ≡ true)
-
-pub tells_settled : (r s : Bool) {fact : Type 0} → Tells r fact → Tells s fact → r ≡ s
-tells_settled true true x y = refl
-tells_settled true false x y = sym (y.1 (x.0 refl))
-tells_settled false true x y = x.1 (y.0 refl)
-tells_settled false false x y = refl
 
 abbrev pub part : List ℕ → ℕ → ℕ → List ℕ
 part list from to = take (to - from) (drop from list)
@@ -32,28 +21,16 @@ entry source lines rest = line 83 (length source ∷ length lines ∷ []) ++ (so
 
 -- its text stands there
 abbrev pub Stands : List ℕ → ℕ → Entry → Type 0
-Stands list at e = drop at list ≡ entry (part list e.source e.stop) (part list e.lines e.last) (drop e.next list)
+Stands list at e = drop at list ≡ entry e.source.now e.lines.now (drop e.next list)
 
--- ---- its places: the next one, the end of a part that has LF behind it, and all in their order
-pub record Behind (list : List ℕ) (at r : ℕ) : Type 0 where
-  pub from : at ≤ r
-  pub inside : r ≤ length list
-  pub next : at < length list → r ≡ at + 1
-
+-- ---- the end of a part that has LF behind it
 pub record Ends (list : List ℕ) (at bytes r : ℕ) : Type 0 where
-  pub from : at ≤ r
-  pub inside : r ≤ length list
-  pub whole : r < length list → (r ≡ at + bytes) × (get_or list r 0 ≡ 10)
+  pub is : r ≡ at + bytes
+  pub inside : r < length list
+  pub feed : get_or list r 0 ≡ 10
 
-pub record Ordered (list : List ℕ) (e : Entry) : Type 0 where
-  pub source : e.source ≤ e.stop
-  pub between : e.stop ≤ e.lines
-  pub lines : e.lines ≤ e.last
-  pub behind : e.last ≤ e.next
-  pub inside : e.next ≤ length list
-
--- an entry that ends behind the place where it starts stands there; one that ends where it starts is none
+-- an entry that starts at a place: it ends behind that, within the list
 pub record EntryAt (list : List ℕ) (at : ℕ) (e : Entry) : Type 0 where
-  pub ordered : Ordered list e
-  pub from : at ≤ e.next
-  pub stands : at < e.next → Stands list at e
+  pub from : at < e.next
+  pub inside : e.next ≤ length list
+  pub stands : Stands list at e

@@ -4,7 +4,7 @@ use Rattle.listing.specs.declared.Wanted.TheVariants.{Tables}
 use Rattle.listing.specs.Lists.{listed}
 use Rattle.replay_answers.specs.declared.entries.Entry.{Entry}
 use Rattle.replay_answers.specs.declared.Tally.{Tally}
-use Rattle.replay_answers.specs.Entries.{part, heading, Stands}
+use Rattle.replay_answers.specs.Entries.{heading, Stands}
 
 -- a tally counts no more entries than it has read bytes, and stands in the list
 pub record Bounds (list : List ℕ) (t : Tally) : Type 0 where
@@ -12,18 +12,18 @@ pub record Bounds (list : List ℕ) (t : Tally) : Type 0 where
   pub inside : t.at ≤ length list
 
 -- the lines of an entry are those of its source
-abbrev pub Answered : List ℕ → Entry → Type 0
-Answered list e = listed Tables (part list e.source e.stop) ≡ part list e.lines e.last
+abbrev pub Answered : Entry → Type 0
+Answered e = listed Tables e.source.now ≡ e.lines.now
 
 -- one entry more
-pub data Step (list : List ℕ) (t : Tally) (e : Entry) : Tally → Type 0 where
-  same : Answered list e → Step list t e (record { passed = t.passed + 1; failed = t.failed; at = e.next })
-  other : (Answered list e → ⊥) → Step list t e (record { passed = t.passed; failed = t.failed + 1; at = e.next })
+pub data Step (t : Tally) (e : Entry) : Tally → Type 0 where
+  same : Answered e → Step t e (record { passed = t.passed + 1; failed = t.failed; at = e.next })
+  other : (Answered e → ⊥) → Step t e (record { passed = t.passed; failed = t.failed + 1; at = e.next })
 
 -- entries that stand there, one behind the other
 pub data Replayed (list : List ℕ) (t : Tally) : Tally → Type 0 where
   here : Replayed list t t
-  more : {r s : Tally} (e : Entry) → Replayed list t r → Stands list r.at e → Step list r e s → Replayed list t s
+  more : {r s : Tally} (e : Entry) → Replayed list t r → Stands list r.at e → Step r e s → Replayed list t s
 
 -- nothing is counted yet
 abbrev pub start : List ℕ → Tally

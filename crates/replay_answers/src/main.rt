@@ -3,16 +3,17 @@
 // LF; the last line is `Z` and the number of entries.
 #![tactic(auto)]
 
-ghost use Rattle.std.specs.Prelude.{◌+◌, ◌≤◌, ◌<◌, ◌≡◌, length, replicate};
+ghost use Rattle.std.specs.Prelude.{◌+◌, ◌<◌, ◌≡◌, length, replicate};
 ghost use Rattle.listing.specs.declared.Wanted.TheVariants.{Tables};
 ghost use Rattle.listing.specs.Lists.{listed};
-ghost use Rattle.replay_answers.specs.Entries.{Tells, Ordered};
+ghost use Rattle.std.specs.Bool.{Decides};
 ghost use Rattle.replay_answers.specs.Tallies.{Bounds, Step, Replayed, start};
 ghost use Rattle.replay_answers.specs.Verdicts.{Verdict};
 
 use entries::{Entry, entry_at, head_end};
 use lines::empty_line;
 use listing::{Wanted, empty_page, put_source};
+use printing::pages::Page;
 use verdicts::put_verdict;
 
 mod entries;
@@ -29,47 +30,33 @@ struct Tally {
 
 // Whether the source is answered with these lines.
 fn is_answered(source: &[u8], lines: &[u8]) -> bool
-    ensures { Tells result (listed Tables source.now ≡ lines.now) }
+    ensures { Decides result (listed Tables source.now ≡ lines.now) }
 {
-    let mut page = empty_page();
-    let end = put_source(source, Wanted::Tables, &mut page);
-    check::same(&page[..end], lines)
+    let mut bytes = empty_page();
+    let mut page = Page::new(&mut bytes);
+    put_source(source, Wanted::Tables, &mut page);
+    page.written() == lines
 }
 
 // The tally with this entry.
-fn counted(list: &[u8], t: Tally, e: Entry) -> Tally
-    requires { Ordered list.now e × (t.passed + t.failed < e.next) }
-    ensures { Step list.now t e result }
+fn counted(t: Tally, e: Entry) -> Tally
+    requires { t.passed + t.failed < e.next }
+    ensures { Step t e.entry result }
 {
-    let from = e.source;
-    let to = e.stop;
-    let lines = e.lines;
-    let end = e.last;
-    if is_answered(&list[from..to], &list[lines..end]) {
-        return Tally {
+    let at = e.next;
+    if is_answered(e.source, e.lines) {
+        Tally {
             passed: t.passed + 1,
-            failed: t.failed,
-            at: e.next,
-        };
+            at,
+            ..t
+        }
+    } else {
+        Tally {
+            failed: t.failed + 1,
+            at,
+            ..t
+        }
     }
-    Tally {
-        passed: t.passed,
-        failed: t.failed + 1,
-        at: e.next,
-    }
-}
-
-// The tally with the entry that follows; the same tally where there is none.
-fn with_next(list: &[u8], t: Tally) -> Tally
-    requires { Bounds list.now t }
-    ensures { Replayed list.now t result × (Bounds list.now result × (t.at ≤ result.at)) }
-{
-    let at = t.at;
-    let e = entry_at(list, at);
-    if e.next == at {
-        return t;
-    }
-    counted(list, t, e)
 }
 
 // The tally of all entries.
@@ -81,20 +68,17 @@ fn replayed(list: &[u8]) -> Tally
         failed: 0,
         at: head_end(list),
     };
-    loop {
-        let next = with_next(list, t);
-        if next.at == t.at {
-            return t;
-        }
-        t = next;
+    while let Some(e) = entry_at(list, t.at) {
+        t = counted(t, e);
     }
+    t
 }
 
 // The line of what the replay of the list comes to.
-fn put_replay(list: &[u8], page: &mut [u8]) -> usize
-    ensures { Verdict list.now page.old result page.new }
+fn put_replay(list: &[u8], page: &mut Page)
+    ensures { Verdict list.now page.old page.new }
 {
-    put_verdict(list, replayed(list), page)
+    put_verdict(list, replayed(list), page);
 }
 
 // Room for the list.
@@ -107,7 +91,8 @@ fn room() -> [u8; 262144]
 fn main() {
     let mut list = room();
     let n = io::read_full(0, &mut list);
-    let mut page = empty_line();
-    let end = put_replay(&list[..n], &mut page);
-    io::write_all(1, &page[..end]);
+    let mut bytes = empty_line();
+    let mut page = Page::new(&mut bytes);
+    put_replay(&list[..n], &mut page);
+    io::write_all(1, page.written());
 }

@@ -2,11 +2,11 @@
 use Rattle.listing.proofs.Laws.{refused, tables_listed, layouts_listed}
 use Rattle.listing.proofs.put_answer.Goals as goal
 
-pub returns-then-r-ne0 : goal.returns-then-r-ne0
-returns-then-r-ne0 c = refused _ _ _ _ _ _ _ _ _ _ c.if-r-ne0.true c.put_refusal.ensures
+pub returns-in-Err : goal.returns-in-Err
+returns-in-Err c = rw c.in-Err.is (refused _ _ _ c.put_refused.ensures)
 
 pub returns-in-Tables : goal.returns-in-Tables
-returns-in-Tables c = tables_listed _ _ _ _ _ _ _ _ _ _ c.in-Tables.is c.if-r-ne0.false c.put_reading.ensures
+returns-in-Tables c = rw c.in-Ok.is (tables_listed _ _ _ c.in-Tables.is c.put_reading.ensures)
 
 pub returns-in-Layouts : goal.returns-in-Layouts
-returns-in-Layouts c = layouts_listed _ _ _ _ _ _ _ _ _ _ c.in-Layouts.is c.if-r-ne0.false c.put_layouts.ensures
+returns-in-Layouts c = rw c.in-Ok.is (layouts_listed _ _ _ c.in-Layouts.is c.put_layouts.ensures)

@@ -6,5 +6,5 @@ use Rattle.replay_answers.proofs.counted.Goals as goal
 pub returns-then-is_answered : goal.returns-then-is_answered
 returns-then-is_answered c = same (c.is_answered.ensures.0 c.if-is_answered.true)
 
-pub returns : goal.returns
-returns c = other (untold _ _ c.is_answered.ensures c.if-is_answered.false)
+pub returns-else-is_answered : goal.returns-else-is_answered
+returns-else-is_answered c = other (untold _ _ c.is_answered.ensures c.if-is_answered.false)

@@ -5,4 +5,4 @@ use Rattle.replay_answers.proofs.verdicts.put_damage.Goals as goal
 
 pub returns : goal.returns
 unfolding damaged
-returns c = then_wrote (then_wrote c.put_bytes-a.ensures c.put_number-b.ensures) c.put_byte.ensures
+returns c = then_wrote (then_wrote c.put_bytes.ensures c.put_number.ensures) c.put_byte.ensures

@@ -6,5 +6,5 @@ use Rattle.replay_answers.proofs.verdicts.put_tally.Goals as goal
 pub returns : goal.returns
 unfolding tallied
 returns c = then_wrote
-    (then_wrote (then_wrote c.put_number-a.ensures c.put_bytes-b.ensures) c.put_number-c.ensures)
-    c.put_bytes.ensures
+    (then_wrote (then_wrote c.put_number.ensures c.put_bytes.ensures) c.put_number-2.ensures)
+    c.put_bytes-2.ensures

@@ -1,6 +1,0 @@
--- `put_laid` meets its contract: the line, the placed rows and the chunk rows.
-use Rattle.printing.specs.PageLaws.{then_wrote}
-use Rattle.printing.proofs.layouts.put_laid.Goals as goal
-
-pub returns : goal.returns
-returns c = then_wrote (then_wrote c.put_line-l.ensures c.put_lines-p.ensures) c.put_lines.ensures
