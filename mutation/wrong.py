@@ -114,9 +114,9 @@ def letters(token: Token) -> Iterator[Change]:
 
 
 def conditions(source: str, body: List[Token], i: int) -> Iterator[Change]:
-    """The condition of an `if` or a `while`, denied."""
+    """The condition of an `if`, a guard or a `while`, denied."""
     end = i + 1
-    while body[end].text != "{":
+    while body[end].text not in ("{", "=>"):
         end = closing(body, end) + 1 if body[end].text in OPENING else end + 1
     start, stop = body[i + 1].start, body[end - 1].end
     asked = source[start:stop]
@@ -125,8 +125,8 @@ def conditions(source: str, body: List[Token], i: int) -> Iterator[Change]:
 
 
 def parts(source: str, body: List[Token], i: int) -> Iterator[Change]:
-    """In a list of arguments or parts: two neighbours exchanged, and a part given twice."""
-    listed = items(body, i)
+    """In a list of arguments or parts: two neighbours exchanged, and a part given twice. What a struct takes from another stays."""
+    listed = [(first, last) for first, last in items(body, i) if body[first].text != ".."]
     spans = [(body[first].start, body[last].end) for first, last in listed]
     texts = [source[start:end] for start, end in spans]
     named = body[i].text == "{"

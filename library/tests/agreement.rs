@@ -120,7 +120,7 @@ fn the_prototypes_of_the_header_are_those_of_the_port() {
 const STRUCTS: [(&str, &str); 4] = [
     ("Aligner", "crates/meaning/src/lib.rt"),
     ("SourceLocation", "crates/meaning/src/lib.rt"),
-    ("Ended", "crates/alignment/src/lib.rt"),
+    ("Ended", "crates/front/src/aligning.rt"),
     ("Chunk", "crates/byte_aligner/src/lib.rt"),
 ];
 
