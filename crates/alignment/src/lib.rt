@@ -1,5 +1,5 @@
 // The byte aligner's core (alignment.rs, `ByteAligner`): a state by value over two lent tables of words. The three stay parameters:
-// C lends them one by one, and a judge only reads the tables that an adder writes.
+// a judge only reads the tables that an adder writes. A chunk's kind is 1, 2 or 3, as its row has it, and is written in one place each.
 #![tactic(auto)]
 
 ghost use Rattle.std.specs.Prelude.{◌≡◌, not, ◌≤◌, OnOk, IsOkUnless};

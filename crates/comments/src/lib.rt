@@ -22,7 +22,7 @@ enum CommentKind {
 }
 
 // An offset from which on no `*/` starts, just past the last one: unclosed comments are told by it, and not each followed to
-// the end of the source.
+// the end of the source. By index, since two neighbours are looked at, from the end.
 fn last_close(s: &[u8]) -> usize
     ensures { Closed s.now result }
 {
@@ -34,7 +34,7 @@ fn last_close(s: &[u8]) -> usize
     0
 }
 
-// How much a match took, if it is one.
+// How much a match took, if it is one. Only comments ask so: elsewhere a miss is handed on.
 fn length_of(m: Match) -> Option<usize>
     ensures { result ≡ length_of m }
 {
@@ -115,7 +115,7 @@ fn put_comment(s: &[u8], at: usize, len: usize, n: Walk, t: &mut [u64]) -> Walk
     b.put(walk::Table::Comments, &row, t)
 }
 
-// The comments of a source: the row of each comes to the door.
+// The comments of a source: the row of each comes to the door. The loop is no `for`: it goes on behind what was found.
 pub fn put_comments(s: &[u8], door: Door, t: &mut [u64]) -> Walk
     ensures { Wrote (lexical s.now) (fresh door) result (lend Table.comments t.old) (lend Table.comments t.new) }
 {

@@ -12,7 +12,7 @@ use meaning::SourceLocation;
 use spans::{Header, Matched};
 use walk::{Name, Number, Walk};
 
-// The head of a declaration of this kind.
+// The head of a declaration of this kind: a kind is a value and no closure, since `kind_at` answers one.
 pub fn head_of(s: &[u8], kind: Kind) -> Matched<Header>
     ensures { HeadOf (shape_of kind) s.now result }
 {

@@ -54,7 +54,8 @@ fn past_brace(s: &[u8], w: Walked) -> Walked
     }
 }
 
-// The rows of an enum's tags, which stand at i, and where their list ends. Where one or two tables alone are lent, the others stay.
+// The rows of an enum's tags, which stand at i, and where their list ends. One or two tables are lent alone, and no struct of all, to
+// say that the others stay.
 fn put_tags(s: &[u8], i: usize, n: Walk, tags: &mut [u64]) -> Walked
     requires { Tagged s.now i n }
     ensures { GoesTags s.now i n result (lend Table.tags tags.old) (lend Table.tags tags.new) }

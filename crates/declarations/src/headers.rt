@@ -74,7 +74,7 @@ pub fn packet_head(s: &[u8]) -> Matched<Header>
     parent_head(s, keyword(s, b"packet"))
 }
 
-// The head of a struct.
+// The head of a struct: what it shares with a packet is `parent_head`.
 pub fn struct_head(s: &[u8]) -> Matched<Header>
     ensures { Headed Rule.STRUCT struct_head s.now result }
 {

@@ -46,14 +46,14 @@ pub fn packet_declaration(s: &[u8]) -> Match
     next_literal(s, next_fields(s, packet_head(s).at), b"}")
 }
 
-// A struct.
+// A struct: it differs from a packet in its head.
 pub fn struct_declaration(s: &[u8]) -> Match
     ensures { Reads struct_declaration s.now result }
 {
     next_literal(s, next_fields(s, struct_head(s).at), b"}")
 }
 
-// A group.
+// A group: it differs from an enum in its head and its list.
 pub fn group_declaration(s: &[u8]) -> Match
     ensures { Reads group_declaration s.now result }
 {

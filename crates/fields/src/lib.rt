@@ -176,7 +176,7 @@ pub fn field(s: &[u8]) -> Matched<Field>
     }
 }
 
-// A field, where m ends.
+// A field, where m ends, by a closure with clauses of its own.
 pub fn then_field(s: &[u8], m: Match) -> Match
     requires { Within m s.now }
     ensures { Steps m field s.now result }

@@ -13,7 +13,7 @@ use lexis::{blanks, tokens};
 use meaning::Match;
 use spans::{FieldDesc, Matched, Tag};
 
-// How much m took, plus 1; 0 where it missed.
+// How much m took, plus 1; 0 where it missed: C is told a number, and no Option.
 fn extent(s: &[u8], m: Match) -> usize
     requires { Within m s.now }
     ensures { result ≡ extent m }

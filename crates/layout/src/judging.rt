@@ -58,6 +58,7 @@ pub fn judge_fields(
         place = first_staged(a, place, i);
         a = next;
     }
+    // A match, since the refusal is wrapped and given its place at once.
     match alignment::align(a, placed, chunks) {
         Ok(_) => Ok(()),
         Err(refusal) => Err(Refused {

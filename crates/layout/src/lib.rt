@@ -1,4 +1,5 @@
 // Feeding a packet, struct or group to the aligner: first every field is judged and nothing is written, then the rows are placed.
+// Two tables are read and two written, so they stay parameters: the judging pass is lent the last two without leave to write.
 #![tactic(auto)]
 
 ghost use Rattle.std.specs.Prelude.{◌≡◌, ◌-◌, Ok, IfOk};
@@ -120,6 +121,7 @@ fn field_rows(declarations: &[u64], fields: &[u64], index: usize) -> Result<Rang
     if declarations.len() / DECLARATION_WORDS <= index {
         return Err(Refusal::NoSuchDeclaration);
     }
+    // A kind is a number here, as in a lent row: this crate does not rest on those that have enums of them.
     let kind = word_of(declarations, DECLARATION_WORDS, index, ROW_KIND);
     if !matches!(kind, 2..=4) {
         return Err(Refusal::NoSuchDeclaration);

@@ -27,7 +27,7 @@ fn is_damaged(kind: u64, flag: u64, other: u64) -> bool
         || (flag == 0 && matches!(kind, 2 | 3 | 4 | 5 | 8 | 10 | 12))
 }
 
-// What a kind asks for, without a condition: an enum of fourteen kinds would say each number once more than this match.
+// What a kind asks for, without a condition. A kind is a number: this crate does not rest on the walk, where fields have an enum of them.
 #[tactic(auto, unfolding(crate::specs::Requests::by_kind))]
 fn kind_request(kind: u64, width: u64) -> Result<Request, Refusal>
     ensures { result ≡ by_kind kind width }

@@ -1,11 +1,7 @@
 -- Classes of bytes, and the laws of runs and words: what an expression that takes one byte of a class takes again and again.
-use Rattle.std.specs.Prelude.{ℕ, suc, ◌+◌, ◌≤◌, ◌<◌, max, ◌≡◌, refl, List, [], ◌∷◌, Bool, true, false, length, drop, get_or, eqb, Option, None, Some, slice_get, not, cond, nat_lt}
+use Rattle.std.specs.Prelude.{ℕ, suc, ◌+◌, ◌≤◌, ◌<◌, max, ◌≡◌, refl, List, [], ◌∷◌, Bool, true, false, length, drop, get_or, eqb, Option, None, Some, slice_get, not}
 use Rattle.std.proofs.Common.{arith, add-one, ap₂, sym, ◌∙◌, drop_of_length-le, drop-cons}
 use Rattle.std.proofs.Math.Path.{ap}
-use Rattle.std.specs.List.{position, position_or_len}
-use Rattle.std.specs.Option.{unwrap_or}
-use Rattle.std.proofs.lemmas.Bool.{ltb-false}
-use Rattle.std.proofs.lemmas.List.Recursion.{is_position_or_len}
 use Rattle.meaning.specs.declared.Match.{Match}
 use Rattle.meaning.specs.declared.Match.TheVariants.{Missed, Took}
 use Rattle.meaning.specs.Choice.{pick, both, either}
@@ -84,23 +80,6 @@ span_stop f t i h e = rw (drop-cons t i 0 h, e) (omega arith)
 pub span_end : (f : ℕ → Bool) (t : List ℕ) (i : ℕ) → length t ≤ i → i + span f (drop i t) ≡ i
 unfolding span
 span_end f t i h = rw (drop_of_length-le t h) (omega arith)
-
--- the place of the first byte that is not of a class, or else the end
-span_found : (f : ℕ → Bool) (t : List ℕ) → span f t ≡ position_or_len (λ x. not (f x)) t
-unfolding span
-span_found f = is_position_or_len (span f) (λ x. not (f x)) refl (λ x t. go (f x) (span f t))
-  where
-    go : (d : Bool) (n : ℕ) → suc_if d n ≡ cond (not d) 0 (1 + n)
-    go true n = omega arith
-    go false n = refl
-
-pub runs_found : (f : ℕ → Bool) (t : List ℕ) {p : Option ℕ} {r : ℕ} → p ≡ position (λ x. not (f x)) t → r ≡ unwrap_or p (length t) → Runs f t r
-runs_found f t {p} {r} e q =
-    runs f t r (q ∙ rw (e, ← span_found f t) (go (nat_lt (span f t) (length t)) refl))
-  where
-    go : (b : Bool) → nat_lt (span f t) (length t) ≡ b → unwrap_or (cond b (Some (span f t)) None) (length t) ≡ span f t
-    go true h = refl
-    go false h = omega (arith, span_le f t, ltb-false (span f t) (length t) h)
 
 -- ---- one byte: it was taken or not, and a try that failed before it was taken leaves a mark
 abbrev Hit : Bool → Match → Type 0

@@ -7,7 +7,7 @@ ghost use Rattle.lexis.specs.Classes.{spaceb, classed, one_of, Runs};
 use grammar::then;
 use meaning::Match;
 
-// The classes of bytes that tokens are made of.
+// The classes of bytes that tokens are made of. A class is a value and no closure, since the rules of tokens go by its cases.
 #[derive(Clone, Copy)]
 pub enum Class {
     Space,
@@ -37,13 +37,19 @@ pub fn in_class(class: Class, b: u8) -> bool
     }
 }
 
-// How many bytes from the front are of the class.
+// How many bytes from the front are of the class. A loop by index: blank runs and words are gone over by it, and `position` takes a third
+// longer.
 pub fn run_of(s: &[u8], class: Class) -> usize
     ensures { Runs (classed class) s.now result }
 {
-    s.iter()
-        .position(|b| !in_class(class, *b))
-        .unwrap_or(s.len())
+    let mut i = 0;
+    while i < s.len() {
+        if !in_class(class, s[i]) {
+            return i;
+        }
+        i += 1;
+    }
+    i
 }
 
 // One byte of the class head, and then as many of the class tail as there are.

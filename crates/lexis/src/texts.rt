@@ -31,7 +31,7 @@ pub fn either_literal(s: &[u8], first: &[u8], second: &[u8]) -> Match
     or_else(s, literal(s, first), |rest| literal(rest, second))
 }
 
-// All bytes before the first l, which is looked for only where its first byte stands.
+// All bytes before the first l, which is looked for only where its first byte stands; `windows` would compare it everywhere.
 fn up_to(s: &[u8], l: &[u8]) -> Match
     ensures { Reads (star (seq (neg (lit l.now)) any)) s.now result }
 {

@@ -17,14 +17,14 @@ use reading::{Reading, Refusal};
 // The longest source that the programs take, in bytes.
 const LONGEST: usize = 16384;
 
-// What is to be listed.
+// What is to be listed. It is a value and no closure, since what is promised goes by its cases.
 #[derive(Clone, Copy)]
 pub enum Wanted {
     Tables,
     Layouts,
 }
 
-// A page that has room for the rows of all tables below.
+// A page that has room for the rows of all tables below: like these it is fixed, since the programs have no heap.
 pub fn empty_page() -> [u8; 131072]
     ensures { (result ≡ replicate 131072 0) × (131072 ≡ length result) }
 {

@@ -5,7 +5,7 @@ ghost use Rattle.printing.specs.Answers.{refusal, tables_of, reading_of};
 use crate::pages::Page;
 use ast::numbers;
 
-// The tables of a source, in number order.
+// The tables of a source, in number order, lent for reading alone; `walk::tables` has those that are lent to be written.
 #[derive(Clone, Copy)]
 pub struct Tables<'a> {
     pub declarations: &'a [u64],

@@ -8,7 +8,7 @@ use crate::pages::Page;
 use ast::numbers;
 use layout::{Layout, Refusal, Refused};
 
-// The words of a layout's line: row, number, place, reason, placed rows, chunk rows.
+// The words of a layout's line: row, number, place, reason, placed rows, chunk rows; the last two say how many lines follow.
 fn layout_words(k: u64, outcome: Result<Layout, Refused>) -> [u64; 6]
     ensures { result ≡ answer_words k (answered outcome [] []) }
 {

@@ -17,8 +17,8 @@ use meaning::SourceLocation;
 use walk::tables::Tables;
 use walk::{Door, Walk};
 
-// The orders of bytes, as the first word of the endianness has them: a number that `read` answers, and no enum, since nothing goes
-// by it.
+// The orders of bytes, as the first word of the endianness has them: a number that `read` answers, and no enum, which
+// would be cast where it is made.
 const LITTLE: u64 = 1;
 
 const BIG: u64 = 2;

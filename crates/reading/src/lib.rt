@@ -52,7 +52,7 @@ fn read_into(src: &[u8], tables: &mut Tables) -> Result<Reading, Refusal>
 }
 
 // Reads a source into five lent tables of words. Checks 1, 2, 3, 4 and 5 in that order; a refused reading changes no word.
-// The tables are five parameters, as C lends them to pdl_read. Rust: parse_inline.
+// The tables are five parameters, as what `read` states and is called by may not change. Rust: parse_inline.
 pub fn read(
     src: &[u8],
     declarations: &mut [u64],

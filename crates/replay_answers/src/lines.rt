@@ -5,7 +5,7 @@ ghost use Rattle.std.specs.Bool.{Decides};
 
 use printing::pages::Page;
 
-// A page that has room for the longest line of this program.
+// A page that has room for the longest line of this program: fixed, since the programs have no heap.
 pub fn empty_line() -> [u8; 64]
     ensures { (result ≡ replicate 64 0) × (64 ≡ length result) }
 {

@@ -59,7 +59,7 @@ fn counted(t: Tally, e: Entry) -> Tally
     }
 }
 
-// The tally of all entries.
+// The tally of all entries. The loop is no `for`: it goes on where an entry ends.
 fn replayed(list: &[u8]) -> Tally
     ensures { Replayed list.now (start list.now) result × Bounds list.now result }
 {
@@ -81,7 +81,7 @@ fn put_replay(list: &[u8], page: &mut Page)
     put_verdict(list, replayed(list), page);
 }
 
-// Room for the list.
+// Room for the list: fixed, since the programs have no heap.
 fn room() -> [u8; 262144]
     ensures { (result ≡ replicate 262144 0) × (262144 ≡ length result) }
 {

@@ -19,7 +19,8 @@ ghost use Rattle.spans.specs.Makers.{Makes};
 use grammar::optional;
 use meaning::Match;
 
-// A match, and what was matched: where the match missed, the value is the one that stands for none.
+// A match, and what was matched: where the match missed, the value is the one that stands for none. It is no Option: each step reads
+// where its parts ended, so an Option would be opened at every step.
 #[derive(Clone, Copy)]
 pub struct Matched<T> {
     pub at: Match,
@@ -163,7 +164,8 @@ pub fn between(m: Match, r: Match) -> Span
     }
 }
 
-// A value, where the match x that it stands in took; else the one that stands for none.
+// A value, where the match x that it stands in took; else the one that stands for none. The match itself stands beside it where both are
+// answered, since a contract names the two.
 pub fn kept<T: Copy>(x: Match, value: T, none: T) -> T
     ensures { result ≡ pick (hit x) value none }
 {

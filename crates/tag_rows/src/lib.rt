@@ -150,7 +150,7 @@ fn put_range(s: &[u8], at: usize, len: usize, x: TagRange, n: Walk, t: &mut [u64
     put_values(s, i, first, back(r, m.here), t)
 }
 
-// The tags of an enum, and the table of their rows.
+// The tags of an enum, and the table of their rows: a struct of its own, since its type chooses the impl.
 #[derive(Drop)]
 struct TagRows<'a> {
     t: &'a mut [u64],

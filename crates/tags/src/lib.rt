@@ -53,7 +53,7 @@ pub fn enum_value(s: &[u8]) -> Matched<Tag>
     tagged(at, Tag::Value(tag))
 }
 
-// A name and its value, where m ends.
+// A name and its value, where m ends. The closure has clauses of its own, which a function for this and the like would have to ask.
 pub fn then_enum_value(s: &[u8], m: Match) -> Match
     requires { Within m s.now }
     ensures { Steps m enum_value s.now result }
@@ -150,7 +150,7 @@ pub fn enum_tag(s: &[u8]) -> Matched<Tag>
     range
 }
 
-// A tag, where m ends.
+// A tag, where m ends, by such a closure.
 pub fn then_enum_tag(s: &[u8], m: Match) -> Match
     requires { Within m s.now }
     ensures { Steps m enum_tag s.now result }

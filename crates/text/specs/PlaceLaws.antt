@@ -1,6 +1,6 @@
 -- Laws of places: one byte more, the bounds of a place, and SourceLocation::new over the source's own starts of lines.
 use Rattle.std.specs.Prelude.{ℕ, zero, suc, ◌+◌, ◌-◌, ◌≤◌, ◌<◌, ◌≡◌, refl, List, [], ◌∷◌, ◌++◌, Bool, true, false, length, get_or, take, eqb}
-use Rattle.std.proofs.Common.{ap, ◌∙◌, add-one, arith, lt-ltb, le-ltb, eq-eqb, ne_eqb, take-suc, length-take-le}
+use Rattle.std.proofs.Common.{ap, ◌∙◌, add-zero, add-one, arith, lt-ltb, le-ltb, eq-eqb, ne_eqb, take-suc, length-take-le}
 use Rattle.meaning.specs.declared.SourceLocation.{SourceLocation}
 use Rattle.meaning.specs.Choice.{pick}
 use Rattle.meaning.specs.Places.{at, fold, location, over, moved, place_at, starts_from, starts}
@@ -26,9 +26,28 @@ pub step_lf : (s : List ℕ) (i l c : ℕ) → i < length s → get_or s i 0 ≡
     → place_at s (i + 1) ≡ at (i + 1) (l + 1) 0
 step_lf s i l c h e q = place_at_step s i h ∙ simp (eq-eqb _ _ e, q)
 
-pub step_other : (s : List ℕ) (i l c : ℕ) → i < length s → (get_or s i 0 ≡ 10 → ⊥) → place_at s i ≡ at i l c
+step_other : (s : List ℕ) (i l c : ℕ) → i < length s → (get_or s i 0 ≡ 10 → ⊥) → place_at s i ≡ at i l c
     → place_at s (i + 1) ≡ at (i + 1) l (c + 1)
 step_other s i l c h e q = place_at_step s i h ∙ simp (ne_eqb _ _ e, q)
+
+-- over n bytes that are no LF
+pub step_flat : (s : List ℕ) (i l c n : ℕ) → i + n ≤ length s → ((j : ℕ) → j < n → get_or s (i + j) 0 ≡ 10 → ⊥) → place_at s i ≡ at i l c
+    → place_at s (i + n) ≡ at (i + n) l (c + n)
+step_flat s i l c zero h e q =
+    let a : i + 0 ≡ i = add-zero i in
+    let b : c + 0 ≡ c = add-zero c in
+    rw (a, b) q
+step_flat s i l c (suc n) h e q =
+    let a : i + suc n ≡ i + n + 1 = omega arith in
+    let b : c + suc n ≡ c + n + 1 = omega arith in
+    rw (a, b)
+    (step_other s (i + n) l (c + n) (omega arith) (e n (omega arith)) (step_flat s i l c n (omega arith) (λ j k. e j (omega arith)) q))
+
+-- how many bytes from the front are no LF
+pub record LineLength (t : List ℕ) (r : ℕ) : Type 0 where
+  pub fits : r ≤ length t
+  pub flat : (j : ℕ) → j < r → get_or t j 0 ≡ 10 → ⊥
+  pub stop : r < length t → get_or t r 0 ≡ 10
 
 -- ---- bounds: q is n bytes past p
 pub record Near (n : ℕ) (q p : SourceLocation) : Type 0 where

@@ -7,6 +7,7 @@ ghost use Rattle.meaning.specs.Places.{place_at};
 ghost use Rattle.meaning.specs.Convert.{digit_of, digits, radix, convert, reason_of, value_of};
 ghost use Rattle.text.specs.Fitting.{in_range, reached};
 ghost use Rattle.text.specs.Utf8Laws.{octets};
+ghost use Rattle.text.specs.PlaceLaws.{LineLength};
 
 use meaning::{ConversionError, SourceLocation};
 
@@ -27,7 +28,7 @@ fn has_octets(s: &[u8], least: u8, most: u8, n: usize) -> bool
     }
 }
 
-// How long a character is behind whose first byte stands one from least to most, and then n tails.
+// How long a character is, if behind its first byte stands one from least to most, and then n tails.
 fn followed(rest: &[u8], least: u8, most: u8, n: usize) -> Option<usize>
     requires { n ≤ 2 }
     ensures { SomeIff result (has (octets least most n) rest.now ≡ true) (n + 2) }
@@ -56,7 +57,7 @@ fn character(s: &[u8]) -> Option<usize>
     }
 }
 
-// The length of the longest prefix that is UTF-8.
+// The length of the longest prefix that is UTF-8. The loop is no `for`: it goes on by a character's length.
 pub fn valid_prefix(s: &[u8]) -> usize
     ensures { result ≡ valid s.now }
 {
@@ -67,30 +68,46 @@ pub fn valid_prefix(s: &[u8]) -> usize
     len
 }
 
+// How many bytes from the front are no LF. Written as a loop by index, and the move line by line: one `for` over the bytes of the way
+// takes half as long again.
+fn line_length(s: &[u8]) -> usize
+    ensures { LineLength s.now result }
+{
+    let mut i: usize = 0;
+    while i < s.len() {
+        if s[i] == 10 {
+            return i;
+        }
+        i += 1;
+    }
+    i
+}
+
 // The place p, moved forward to the offset `to`: a line more for each LF on the way.
 pub fn move_to(s: &[u8], p: SourceLocation, to: usize) -> SourceLocation
     requires { (p ≡ place_at s.now p.offset) × ((p.offset ≤ to) × (to ≤ length s.now)) }
     ensures { result ≡ place_at s.now to }
 {
-    let mut line = p.line;
-    let mut column = p.column;
-    for b in &s[p.offset..to] {
-        if *b == b'\n' {
-            line += 1;
-            column = 0;
-        } else {
-            column += 1;
+    let mut line: usize = p.line;
+    let mut column: usize = p.column;
+    let mut i: usize = p.offset;
+    loop {
+        let n = line_length(&s[i..to]);
+        if i + n == to {
+            return SourceLocation {
+                offset: to,
+                line,
+                column: column + n,
+            };
         }
-    }
-    SourceLocation {
-        offset: to,
-        line,
-        column,
+        line += 1;
+        column = 0;
+        i += n + 1;
     }
 }
 
-// A digit's value, if it is one in the base, as Rust's char::to_digit.
-// Three functions ask this of a base, as to_digit does; a type of its own would have to be asked the same to be made.
+// A digit's value, if it is one in the base, as Rust's char::to_digit. Three functions ask this of a base, as to_digit does; a type
+// of the two bases that are used would be opened in each.
 fn to_digit(b: u8, base: u32) -> Option<u64>
     requires { (2 ≤ base) × (base ≤ 36) }
     ensures { SomeIff result (digit_of b < base) (digit_of b) }
@@ -152,7 +169,7 @@ pub fn reason_of(c: Result<u64, ConversionError>) -> u64
     }
 }
 
-// The value, 0 where there is none, as the C interface tells it.
+// The value, 0 where there is none, as rows and the C interface have it.
 pub fn value_of(c: Result<u64, ConversionError>) -> u64
     ensures { result ≡ value_of c }
 {

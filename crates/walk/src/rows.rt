@@ -1,4 +1,5 @@
-// Rows from names and numbers, word by word.
+// Rows from names and numbers, word by word, in the document's order, in which the parameters stand too. A row's two places come as
+// two: the walk is first at one and then at the other.
 ghost use Rattle.std.specs.Prelude.{◌≡◌};
 ghost use Rattle.meaning.specs.Tables.{first_of};
 ghost use Rattle.walk.specs.Terms.{flag_of, said_by, words_of_tag, words_of_constraint, words_of_field, words_of_declaration};

@@ -1,4 +1,5 @@
-// Terms: the names and numbers that a part of a match stands for, and the kind of a constraint.
+// Terms: the names and numbers that a part of a match stands for, and the kind of a constraint. Each sort of part has a function of
+// its own, which is a match on the sort's cases. What each asks, that the part lies inside the text, is no type: a span has no text.
 ghost use Rattle.std.specs.Prelude.{Some, ◌≡◌, ◌+◌, ◌-◌, ◌^◌, ◌≤◌, ◌<◌, length};
 ghost use Rattle.walk.specs.Terms.{number_at, span_number, operand_number, size_number, part_number, no_name, span_name, operand_name, size_name, part_name, target_name, unquoted_name, other_name, Inside, InsideOperand, InsideSize, InsidePart, InsideTarget, constraint_kind};
 
@@ -6,7 +7,7 @@ use crate::kinds::ConstraintKind;
 use crate::{Name, Number};
 use spans::{ArraySize, Operand, Span, Target};
 
-// The integer in s[at..end].
+// The integer of len bytes at `at`.
 #[tactic(auto, using(crate::proofs::Laws::part_is), unfolding(crate::specs::Terms::number_at))]
 pub fn integer_at(s: &[u8], at: usize, len: usize) -> Number
     requires { at + len ≤ length s.now }

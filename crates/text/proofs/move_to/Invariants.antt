@@ -1,7 +1,10 @@
--- `move_to` meets its contract: line and column so far are those of the place that the loop has come to.
-use Rattle.std.proofs.Common.{◌+◌, ◌≡◌}
-use Rattle.meaning.specs.Places.{at, place_at}
+-- `move_to` meets its contract: line and column so far are those of the place at i.
+use Rattle.std.proofs.Common.{◌-◌}
+use Rattle.text.proofs.PlaceTurns.{Moved}
 use Rattle.text.proofs.move_to.Given as goal
 
-abbrev pub invariant-loop-b : goal.invariant-loop-b
-invariant-loop-b l = place_at l.s (l.fn.p.offset + l.b-index) ≡ at (l.fn.p.offset + l.b-index) l.line l.column
+abbrev pub invariant-loop-i : goal.invariant-loop-i
+invariant-loop-i l = Moved l.s l.to l.i l.line l.column
+
+abbrev pub decreases-loop-i : goal.decreases-loop-i
+decreases-loop-i l = l.to - l.i

@@ -1,11 +1,15 @@
--- `run_of` meets its contract: the first byte of another class, or the end.
-use Rattle.std.proofs.Common.{not, rules, tests}
-use Rattle.std.proofs.lemmas.Iterator.{YieldsList-from_slice}
-use Rattle.std.proofs.lemmas.Iterator.Search.{position_from_yields_List}
-use Rattle.lexis.specs.Classes.{classed, runs_found}
+use Rattle.std.proofs.Common.{arith, sym, ◌∙◌, ap, not}
+use borrow.Author.Tests.{not-true, not-false}
+use Rattle.lexis.specs.Classes.{runs, span_step, span_stop, span_end}
 use Rattle.lexis.proofs.bytes.run_of.Goals as goal
 
+pub returns-then-not-in_class : goal.returns-then-not-in_class
+returns-then-not-in_class c = runs _ _ _ (sym (c.loop-i.invariant.1 ∙ span_stop _ _ _ c.loop-i-test.true
+    (sym c.in_class.ensures ∙ not-true _ (ap not c.if-not-in_class.true))))
+
+pub loop-i-preserved : goal.loop-i-preserved
+loop-i-preserved c =
+    (omega arith, c.loop-i.invariant.1 ∙ span_step _ _ _ c.loop-i-test.true (sym c.in_class.ensures ∙ not-false _ (ap not c.if-not-in_class.false)))
+
 pub returns : goal.returns
-returns c = runs_found _ _
-    (position_from_yields_List (λ b. not (classed c.args.class b)) _ _ c.position.result c.position.ensures.ran (YieldsList-from_slice _ c.iter.ensures.rest)
-    (λ x b q k. search (rules, tests))) c.unwrap_or.ensures
+returns c = runs _ _ _ (sym (c.loop-i.invariant.1 ∙ span_end _ _ _ c.loop-i-test.false))
