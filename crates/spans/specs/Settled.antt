@@ -51,6 +51,18 @@ module _ {A : Type 0} (draw : Match → A → ℕ → Forest) (Sound : Match →
   pub settled : Answers g t r (draw r) (Sound r) (absent r) x → Answers g t s (draw s) (Sound s) (absent s) y → (r ≡ s) × (x ≡ y)
   settled a b = settled_on (from_start a) (from_start b)
 
+-- an answer that has its match in itself, and draws all of it but that
+module _ {A : Type 0} (at : A → Match) (draw : A → ℕ → Forest) (Sound : A → Type 0) (absent : Match → A) (undraw : Match → Forest → A)
+    (back : (x : A) → Sound x → undraw (at x) (draw x 0) ≡ x) {n : Match} {g : Peg} {t : List ℕ} where
+  own : {x : A} → Continues n g t (at x) draw Sound (absent (at x)) x
+      → Continues n g t (at x) draw (λ y. (at y ≡ at x) × Sound y) (absent (at x)) x
+  own a = record { drawn = a.drawn; sound = λ h. (refl, a.sound h); missed = a.missed }
+
+  pub settled_own : {x y : A} → Continues n g t (at x) draw Sound (absent (at x)) x → Continues n g t (at y) draw Sound (absent (at y)) y → x ≡ y
+  settled_own a b =
+      (settled_on (λ m x o. draw x o) (λ m x. (at x ≡ m) × Sound x) absent undraw
+      (λ m x h. ap (λ (z : Match). undraw z (draw x 0)) (sym h.0) ∙ back x h.1) (own a) (own b)).1
+
 -- an answer is its match and its value
 pub same_answer : {A : Type 0} {r s : Matched A} → (r.at ≡ s.at) × (r.value ≡ s.value) → r ≡ s
 same_answer {A} e = ap₂ (λ (m : Match) (x : A). record { at = m; value = x }) e.0 e.1
