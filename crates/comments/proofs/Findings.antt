@@ -21,11 +21,11 @@ use Rattle.meaning.specs.Pdl.{block_comment, line_comment, COMMENT, string}
 use Rattle.grammar.specs.Matching.{Reads, eats}
 use Rattle.grammar.specs.Stars.{hit_pos}
 use Rattle.grammar.specs.Picks.{pick_false}
-use Rattle.grammar.specs.Hits.{hit_behind, hit_lit, taken_alt}
+use Rattle.grammar.specs.Hits.{taken_missed, hit_behind, hit_lit, taken_alt}
 use Rattle.grammar.specs.Fits.{within_taken}
 use Rattle.grammar.specs.Steps.{at as part, rest_is}
 use Rattle.lexis.specs.Classes.{suc_if, span, span_le, Runs}
-use Rattle.lexis.specs.Skips.{eats_comment}
+use Rattle.lexis.specs.Skips.{no_comment, eats_comment}
 use Rattle.text.specs.ChoiceLaws.{both_false, both_yes}
 use Rattle.comments.specs.LexLaws.{string_eats, plain_byte}
 use Rattle.comments.specs.Steps.{Closed, Comment, CommentAt, length_of, Past, stride, opens, kind_of}
@@ -69,6 +69,16 @@ some_taken (Took n f) c h = (c, h refl)
 module _ (s : List ℕ) (i : ℕ) (l : i < length s) where
   some_read : (g : Peg) → eats (bytewise g) ≡ true → {m : Match} → Reads g (drop i s) m → hit m ≡ true → 0 < taken m
   some_read g e k h = omega (arith, hit_pos (bytewise g) (drop i s) e (sym (ap hit k.is) ∙ h), ap taken k.is)
+
+  pub comment_none : (get_or s i 0 ≡ 47 → ⊥) → CommentAt s i None
+  comment_none h =
+      record {
+        is =
+            rw (at_byte s i l)
+            (sym (taken_missed (run (bytewise COMMENT) (get_or s i 0 ∷ drop (i + 1) s))
+            (no_comment (get_or s i 0) (drop (i + 1) s) (ne_eqb 47 (get_or s i 0) (λ e. h (sym e))))));
+        fits = omega arith;
+      }
 
   -- nothing closes a block comment here
   pub comment_line : (e : ℕ) (m : Match) → Closed s e → e ≤ i → Reads line_comment (take (length s - i) (drop i s)) m → {r : Option ℕ} → r ≡ length_of m

@@ -44,11 +44,14 @@ fn length_of(m: Match) -> Option<usize>
     }
 }
 
-// How long the comment at `at` is, if there is one. From `close` on no `*/` starts.
+// How long the comment at `at` is, if there is one: none is looked for at a quote. From `close` on no `*/` starts.
 fn comment_at(s: &[u8], at: usize, close: usize) -> Option<usize>
     requires { (at < length s.now) × Closed s.now close }
     ensures { CommentAt s.now at result }
 {
+    if s[at] != b'/' {
+        return None;
+    }
     if close <= at {
         return length_of(line_comment(&s[at..]));
     }

@@ -203,7 +203,15 @@ pub fn then_braces(s: &[u8], m: Match) -> Matched<Option<Span>>
         (λ p o. list_at constraint_list o s.now p) (λ p. MatchedPart constraint_list s.now p) None result.value }
 {
     let b = then_blanks(s, m);
-    let c = then_blanks(s, then_literal(s, b, b"{"));
+    let left = then_literal(s, b, b"{");
+    // Most groups have no constraints: nothing is tried behind a `{` that is missing.
+    if let Match::Missed(_) = left {
+        return Matched {
+            at: optional(s, b, left),
+            value: None,
+        };
+    }
+    let c = then_blanks(s, left);
     let list = then_constraint_list(s, c);
     let braces = next_byte(s, optional(s, c, list), b'}');
     let inner = kept(list, Some(between(c, list)), None);

@@ -21,6 +21,10 @@ pub tries : (m : Match) (g : Peg) (t : List ℕ) (r : Match) → Within m t → 
 tries m g t r h e =
     record { is = e; fits = subst (λ (x : Match). Within x t) (sym e) (within_or_else m (λ u. run (bytewise g) u) t h (λ u. within_run (bytewise g) u)) }
 
+-- behind a match that missed nothing is tried
+pub behind_miss : (m : Match) (g : Peg) (t : List ℕ) {f : ℕ} → Within m t → m ≡ Missed f → Steps m g t m
+behind_miss m g t h e = steps m g t m h (e ∙ ap (λ (x : Match). after x (λ u. run (bytewise g) u) t) (sym e))
+
 -- ---- what joining two matches needs
 within_miss : (m : Match) (t : List ℕ) (g : ℕ) → Within m t → m ≡ Missed g → g ≤ suc (length t)
 within_miss m t g h e = subst (λ (x : Match). Within x t) e h

@@ -11,6 +11,7 @@ ghost use Rattle.grammar.specs.Closures.{Fits, Matches};
 use meaning::Match;
 
 // The farther of a mark f and a mark g that was told from n bytes on.
+#[inline(always)]
 fn farther(f: usize, n: usize, g: usize) -> usize
     requires { n + g < 2 ^ 64 }
     ensures { result ≡ max f (lift n g) }
@@ -19,6 +20,7 @@ fn farther(f: usize, n: usize, g: usize) -> usize
 }
 
 // The match m, which starts n bytes on, after tries as far as f.
+#[inline(always)]
 pub fn joined(s: &[u8], n: usize, f: usize, m: Match) -> Match
     requires { (n ≤ length s.now) × Within m (drop n s.now) }
     ensures { result ≡ join n f m }
@@ -30,6 +32,7 @@ pub fn joined(s: &[u8], n: usize, f: usize, m: Match) -> Match
 }
 
 // What the matcher takes where m ends.
+#[inline(always)]
 pub fn then<F: FnOnce(&[u8]) -> Match>(s: &[u8], m: Match, matcher: F) -> Match
     requires within { Within m s.now }
     requires callable { F.IsAlwaysCallable matcher }
@@ -43,6 +46,7 @@ pub fn then<F: FnOnce(&[u8]) -> Match>(s: &[u8], m: Match, matcher: F) -> Match
 }
 
 // m, or, where it missed, what the matcher takes of s.
+#[inline(always)]
 pub fn or_else<F: FnOnce(&[u8]) -> Match>(s: &[u8], m: Match, matcher: F) -> Match
     requires within { Within m s.now }
     requires callable { F.IsAlwaysCallable matcher }
@@ -56,6 +60,7 @@ pub fn or_else<F: FnOnce(&[u8]) -> Match>(s: &[u8], m: Match, matcher: F) -> Mat
 }
 
 // x, or, where x missed, m with the mark of x: an optional part that may be absent.
+#[inline(always)]
 pub fn optional(s: &[u8], m: Match, x: Match) -> Match
     requires { Within m s.now × Within x s.now }
     ensures { Stays m x s.now result }

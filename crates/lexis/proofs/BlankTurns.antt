@@ -1,7 +1,8 @@
 -- The walk over a blank run: spaces, then again and again a comment and the spaces behind it.
-use Rattle.std.specs.Prelude.{ℕ, suc, ◌+◌, ◌-◌, ◌≤◌, ◌<◌, max, ◌≡◌, refl, List, [], ◌∷◌, Bool, true, false, ◌&&◌, length, take, drop, eqb}
-use Rattle.std.specs.List.{starts_with}
-use Rattle.std.proofs.Common.{arith, ap, ap₂, subst, sym, ◌∙◌, length-drop, drop-drop}
+use Rattle.std.specs.Prelude.{ℕ, suc, ◌+◌, ◌-◌, ◌≤◌, ◌<◌, max, ◌≡◌, refl, List, Bool, true, false, length, take, drop, get_or, eqb}
+use Rattle.std.proofs.Common.{arith, ap, ap₂, subst, sym, ◌∙◌, length-drop, drop-drop, drop-cons, drop_of_length-le}
+use borrow.Author.Tests.{ne_eqb, eqb-false}
+use Rattle.meaning.specs.Choice.{either}
 use Rattle.meaning.specs.declared.Match.{Match}
 use Rattle.meaning.specs.declared.Match.TheVariants.{Missed, Took}
 use Rattle.meaning.specs.Peg.{Peg, seq, star, lift, join, after, hushed, again, run, bytewise, hit}
@@ -12,7 +13,7 @@ use Rattle.grammar.specs.Fits.{join_join}
 use Rattle.grammar.specs.Stars.{Pos, eats_pos, unroll}
 use Rattle.grammar.specs.Steps.{at, rest_is, took_le}
 use Rattle.lexis.specs.declared.bytes.Class.TheVariants.{Space}
-use Rattle.lexis.specs.Classes.{classed, span, span_le, Runs, star_one}
+use Rattle.lexis.specs.Classes.{classed, spaceb, span, span_le, span_stop, span_end, Runs, star_one}
 use Rattle.lexis.specs.Skips.{Skips, no_comment, none_commented, eats_comment}
 
 -- a comment and the spaces behind it
@@ -80,17 +81,11 @@ module _ {t : List ℕ} {n : ℕ} (w : CommentNext t n) where
       = unroll spaced eats_spaced (drop n t) ∙ ap (λ (m : Match). then_again (then_spaces m (drop n t)) (drop n t)) e in
       record { is = w.left ∙ ap (λ (m : Match). hushed (join n 0 m)) none ∙ ap (λ (k : ℕ). Took k 0) (omega arith); fits = w.fits }
 
-  -- what is at n starts with no slash
-  pub walk_other : false ≡ starts_with eqb (take (length t - n) (drop n t)) (47 ∷ []) → Skips t n
-  walk_other e = stop _ refl (go (drop n t) (e ∙ ap (λ (u : List ℕ). starts_with eqb u (47 ∷ [])) (rest_is n t)))
-    where
-      first : (b : Bool) → false ≡ b && true → b ≡ false
-      first true q = sym q
-      first false q = refl
+  pub walk_end : length t ≤ n → Skips t n
+  walk_end h = stop _ refl (rw (drop_of_length-le t h) none_commented)
 
-      go : (u : List ℕ) → false ≡ starts_with eqb u (47 ∷ []) → hit (run (bytewise COMMENT) u) ≡ false
-      go [] q = none_commented
-      go (x ∷ u) q = no_comment x u (first (eqb 47 x) q)
+  pub walk_other : n < length t → (get_or t n 0 ≡ 47 → ⊥) → Skips t n
+  walk_other l h = stop _ refl (rw (drop-cons t n 0 l) (no_comment (get_or t n 0) _ (ne_eqb 47 (get_or t n 0) (λ e. h (sym e)))))
 
   module _ {m : Match} (h : Reads COMMENT (take (length t - n) (drop n t)) m) where
     pub walk_done : {g : ℕ} → m ≡ Missed g → Skips t n
@@ -132,3 +127,17 @@ module _ {t : List ℕ} {n : ℕ} (w : CommentNext t n) where
             ∙ hush_ahead n 0 (k + j) (max g (lift k (suc j))) (run (star spaced) (drop (k + j) (drop n t)))
             ∙ ap₂ (λ (i : ℕ) (u : List ℕ). hushed (join i 0 (run (star spaced) u))) z
             (drop-drop (k + j) n t ∙ ap (λ (i : ℕ). drop i t) z)
+
+-- ---- no blank run begins
+pub none_empty : {t : List ℕ} → length t ≤ 0 → Skips t 0
+none_empty {t} h = walk_end (subst (λ (j : ℕ). CommentNext t j) (span_end (classed Space) t 0 h) (walk_start {t = t}).behind) h
+
+neither : (a b : Bool) → false ≡ either a b → (a ≡ false) × (b ≡ false)
+neither true b e = cc
+neither false b e = (refl, sym e)
+
+pub none_begins : {t : List ℕ} → 0 < length t → false ≡ either (spaceb (get_or t 0 0)) (eqb 47 (get_or t 0 0)) → Skips t 0
+none_begins {t} l e =
+    let k = neither _ (eqb 47 (get_or t 0 0)) e in
+    walk_other (subst (λ (j : ℕ). CommentNext t j) (span_stop (classed Space) t 0 l k.0) (walk_start {t = t}).behind) l
+    (λ q. eqb-false 47 (get_or t 0 0) k.1 (sym q))

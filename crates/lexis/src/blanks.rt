@@ -1,10 +1,13 @@
 // Comments and blank runs.
+ghost use Rattle.std.specs.Prelude.{◌≡◌, eqb};
+ghost use Rattle.meaning.specs.Choice.{either};
 ghost use Rattle.meaning.specs.Peg.{lit, seq, opt};
 ghost use Rattle.meaning.specs.Pdl.{text, block_comment, line_comment, COMMENT, skip};
 ghost use Rattle.grammar.specs.Matching.{Within, Reads, Steps};
+ghost use Rattle.lexis.specs.Classes.{spaceb};
 ghost use Rattle.lexis.specs.Skips.{Skips};
 
-use crate::bytes::{Class, run_of};
+use crate::bytes::{Class, is_space, run_of};
 use crate::texts::{enclosed, literal, then_literal, then_up_to};
 use grammar::{optional, or_else, then};
 use meaning::Match;
@@ -31,15 +34,23 @@ pub fn comment(s: &[u8]) -> Match
     or_else(s, block_comment(s), line_comment)
 }
 
-// How long the blank run at the front is. It never misses, and no try inside it counts. A comment is looked for only at a slash.
-// The loop is no `for`: each turn goes on from where the last one ended.
-pub fn blanks(s: &[u8]) -> usize
+// Whether a blank run may begin with this byte.
+#[inline(always)]
+fn may_begin(b: u8) -> bool
+    ensures { result ≡ either (spaceb b) (eqb 47 b) }
+{
+    is_space(b) || b == b'/'
+}
+
+// How long the blank run at the front is, by turns. A comment is looked for only at a slash. The loop is no `for`: each turn goes on
+// from where the last one ended.
+fn blank_run(s: &[u8]) -> usize
     ensures { Skips s.now result }
 {
     let mut n = 0;
     loop {
         n += run_of(&s[n..], Class::Space);
-        if !s[n..].starts_with(b"/") {
+        if s.len() <= n || s[n] != b'/' {
             return n;
         }
         match comment(&s[n..]) {
@@ -49,7 +60,22 @@ pub fn blanks(s: &[u8]) -> usize
     }
 }
 
+// How long the blank run at the front is. It never misses, and no try inside it counts. Mostly there is none, which the first byte tells.
+#[inline(always)]
+pub fn blanks(s: &[u8]) -> usize
+    ensures { Skips s.now result }
+{
+    if s.is_empty() {
+        return 0;
+    }
+    if !may_begin(s[0]) {
+        return 0;
+    }
+    blank_run(s)
+}
+
 // A blank run, where m ends.
+#[inline(always)]
 pub fn then_blanks(s: &[u8], m: Match) -> Match
     requires { Within m s.now }
     ensures { Steps m skip s.now result }
@@ -58,6 +84,7 @@ pub fn then_blanks(s: &[u8], m: Match) -> Match
 }
 
 // The text l after a blank run, where m ends.
+#[inline(always)]
 pub fn next_literal(s: &[u8], m: Match, l: &[u8]) -> Match
     requires { Within m s.now }
     ensures { Steps m (seq skip (lit l.now)) s.now result }

@@ -21,7 +21,7 @@ pub enum Class {
 pub fn is_space(b: u8) -> bool
     ensures { result ≡ spaceb b }
 {
-    matches!(b, b' ' | b'\n' | b'\r' | b'\t')
+    b == b' ' || b == b'\n' || b == b'\r' || b == b'\t'
 }
 
 // Whether b is of the class.

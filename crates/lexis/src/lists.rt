@@ -29,13 +29,17 @@ pub fn then_many<F: Fn(&[u8], Match) -> Match>(s: &[u8], m: Match, then_item: F)
     }
 }
 
-// A list with no last comma, where m ends: an item, and as many as follow it behind commas.
+// A list with no last comma, where m ends: an item, and as many as follow it behind commas. Where m missed nothing is tried: a list
+// that may be left out, as a head's constraints, costs nothing then.
 pub fn then_list<F: Fn(&[u8], Match) -> Match>(s: &[u8], m: Match, then_item: F) -> Match
     requires within { Within m s.now }
     requires callable { GoesOn F.Fn then_item }
     requires steps { (g : Peg) × StepsOver F.Fn then_item g }
     ensures { (g : Peg) → StepsOver F.Fn then_item g → Steps m (g ~ repeat (text "," ~ g)) s.now result }
 {
+    if let Match::Missed(_) = m {
+        return m;
+    }
     let then_more = |s: &[u8], at: Match|
         requires within { Within at s.now }
         requires callable { GoesOn F.Fn then_item }

@@ -6,6 +6,7 @@ use grammar::{or_else, then};
 use meaning::Match;
 
 // The text l.
+#[inline(always)]
 pub fn literal(s: &[u8], l: &[u8]) -> Match
     ensures { Reads (lit l.now) s.now result }
 {
@@ -17,6 +18,7 @@ pub fn literal(s: &[u8], l: &[u8]) -> Match
 }
 
 // The text l, where m ends.
+#[inline(always)]
 pub fn then_literal(s: &[u8], m: Match, l: &[u8]) -> Match
     requires { Within m s.now }
     ensures { Steps m (lit l.now) s.now result }
@@ -25,23 +27,27 @@ pub fn then_literal(s: &[u8], m: Match, l: &[u8]) -> Match
 }
 
 // The text first, or else the text second.
+#[inline(always)]
 pub fn either_literal(s: &[u8], first: &[u8], second: &[u8]) -> Match
     ensures { Reads (alt (lit first.now) (lit second.now)) s.now result }
 {
     or_else(s, literal(s, first), |rest| literal(rest, second))
 }
 
-// All bytes before the first l, which is looked for only where its first byte stands; `windows` would compare it everywhere.
+// All bytes before the first l, which is looked for only where its first byte stands; `windows` would compare it everywhere. By
+// index: comments and strings are gone over by this loop, and a `for`, over an iterator or a range, takes half as long again.
 fn up_to(s: &[u8], l: &[u8]) -> Match
     ensures { Reads (star (seq (neg (lit l.now)) any)) s.now result }
 {
-    let Some(first) = l.first() else {
+    let Some(&first) = l.first() else {
         return Match::Took(0, 0);
     };
-    for (i, b) in s.iter().enumerate() {
-        if b == first && s[i..].starts_with(l) {
+    let mut i = 0;
+    while i < s.len() {
+        if s[i] == first && s[i..].starts_with(l) {
             return Match::Took(i, 0);
         }
+        i += 1;
     }
     Match::Took(s.len(), s.len() + 1)
 }

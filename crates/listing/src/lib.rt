@@ -25,6 +25,7 @@ pub enum Wanted {
 }
 
 // A page that has room for the rows of all tables below: like these it is fixed, since the programs have no heap.
+#[inline(always)]
 pub fn empty_page() -> [u8; 131072]
     ensures { (result ≡ replicate 131072 0) × (131072 ≡ length result) }
 {

@@ -5,10 +5,11 @@ use Rattle.std.proofs.Math.Path.{refl, ap, ap₂}
 use Rattle.meaning.specs.declared.Match.{Match}
 use Rattle.meaning.specs.declared.Match.TheVariants.{Missed, Took}
 use Rattle.meaning.specs.Rules.{Rule}
-use Rattle.meaning.specs.Peg.{Peg, seq, opt, join, taken}
+use Rattle.meaning.specs.Peg.{Peg, seq, opt, join, hit, taken}
 use Rattle.meaning.specs.Forest.{Forest, nil, ◌⊕◌}
 use Rattle.meaning.specs.Pdl.{text, ◌~◌, ◌∣◌, skip, identifier, integer, enum_value, enum_value_list, enum_range, enum_other}
 use Rattle.grammar.specs.Matching.{Steps, stay}
+use Rattle.grammar.specs.Hits.{no_hit}
 use Rattle.grammar.specs.Fits.{lift_0}
 use Rattle.grammar.specs.Steps.{start, reads_rule}
 use Rattle.grammar.specs.Drawing.{Draws, Follows, whole, then, draws_rule, first, second, retold}
@@ -91,3 +92,8 @@ module _ {t : List ℕ} {b : Match} {id : Span} (f : Front t b id) where
           → Draws enum_range t r (λ o. draw_tag o t (taken r) (Range (record { id = id; start = v; end = w; tags = tags })))
       unfolding enum_range
       range k l = draws_rule Rule.enum_range refl (whole (then ranged (then (gap k) l.drawn)))
+
+      -- where none stands, no range does
+      pub no_end : {x : ℕ → Forest} (g : ℕ) → high ≡ Missed g → Draws enum_range t high x
+      unfolding enum_range
+      no_end g e = record { reads = reads_rule Rule.enum_range (start (halted g ranged.steps e)); draws = λ k. no_hit g (sym (ap hit e) ∙ k) }

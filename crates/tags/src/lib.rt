@@ -18,6 +18,7 @@ use meaning::Match;
 use spans::{Matched, NO_TAG, Span, Tag, TagOther, TagRange, TagValue, between, kept};
 
 // A tag with its match, where that took; else none. What a miss answers is named here, once for every tag.
+#[inline(always)]
 fn tagged(at: Match, tag: Tag) -> Matched<Tag>
     ensures { (result.at ≡ at) × (result.value ≡ pick (hit at) tag no_tag) }
 {
@@ -95,12 +96,17 @@ fn then_braces(s: &[u8], m: Match) -> Matched<Option<Span>>
 
 // The rest of a range, whose first value ends at low: its last value, and values in braces; without these the range ends
 // after the blanks.
+#[inline(always)]
 fn then_range(s: &[u8], label: Matched<Span>, low: Match) -> Matched<Tag>
     requires { Within low s.now }
     ensures { Ranged label low s.now result }
 {
     let c = then_blanks(s, next_literal(s, low, b".."));
     let high = then_integer(s, c);
+    // The most frequent tag is a plain value: nothing is tried behind a `..` that is missing.
+    if let Match::Missed(_) = high {
+        return tagged(high, NO_TAG);
+    }
     let braces = then_braces(s, then_blanks(s, high));
     let range = TagRange {
         id: label.value,

@@ -1,6 +1,6 @@
 -- Laws of UTF-8: what the first byte says of a character, its length, and the valid prefix one character on.
 use Rattle.std.specs.Prelude.{ℕ, zero, suc, ◌+◌, ◌≤◌, ◌<◌, ◌≡◌, refl, List, [], ◌∷◌, Bool, true, false, length, get_or, drop, replicate, leb}
-use Rattle.std.proofs.Common.{ap, sym, ◌∙◌, add-one, arith, le-leb, leb-true, length-drop}
+use Rattle.std.proofs.Common.{ap, sym, ◌∙◌, add-one, arith, le-leb, leb-true, length-drop, drop_of_length-le}
 use Rattle.std.proofs.lemmas.Bool.{lt-leb}
 use Rattle.std.proofs.Math.Seq.{drop-cons}
 use Rattle.meaning.specs.Choice.{pick, both}
@@ -92,6 +92,14 @@ module _ (s : List ℕ) (i : ℕ) (h : i < length s) where
       → character (drop i s) ≡ 0
   by_none k m e a l =
       at_first ∙ past k forms 0 (get_or s i 0) (drop (i + 1) s) refl a ∙ under (drop k forms) m (get_or s i 0) (drop (i + 1) s) e l
+
+-- ---- octet after octet
+module _ (r : Octet) (rs : List Octet) (s : List ℕ) (i : ℕ) where
+  pub has_step : i < length s → has (r ∷ rs) (drop i s) ≡ both (holds r (get_or s i 0)) (has rs (drop (i + 1) s))
+  has_step h = rw (add-one i, drop-cons s i 0)
+
+  pub has_end : length s ≤ i → has (r ∷ rs) (drop i s) ≡ false
+  has_end h = rw (drop_of_length-le s h)
 
 -- ---- lengths
 pub has_fits : (f : List Octet) (t : List ℕ) → has f t ≡ true → length f ≤ length t

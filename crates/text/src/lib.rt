@@ -1,7 +1,7 @@
 // The bytes of a source: the UTF-8 test, places carried forward, and the converter of integers.
 #![tactic(auto)]
 
-ghost use Rattle.std.specs.Prelude.{◌≡◌, ◌+◌, ◌*◌, ◌≤◌, ◌<◌, true, length, drop, replicate, SomeIff};
+ghost use Rattle.std.specs.Prelude.{◌≡◌, ◌+◌, ◌*◌, ◌≤◌, ◌<◌, ◌∷◌, true, length, drop, replicate, SomeIff};
 ghost use Rattle.meaning.specs.Utf8.{tail, has, character, valid};
 ghost use Rattle.meaning.specs.Places.{place_at};
 ghost use Rattle.meaning.specs.Convert.{digit_of, digits, radix, convert, reason_of, value_of};
@@ -12,6 +12,7 @@ ghost use Rattle.text.specs.PlaceLaws.{LineLength};
 use meaning::{ConversionError, SourceLocation};
 
 // Whether n tails stand at the front.
+#[inline(always)]
 fn has_tails(s: &[u8], n: usize) -> bool
     ensures { result ≡ has (replicate n tail) s.now }
 {
@@ -19,6 +20,7 @@ fn has_tails(s: &[u8], n: usize) -> bool
 }
 
 // Whether a byte from least to most stands at the front, and then n tails.
+#[inline(always)]
 fn has_octets(s: &[u8], least: u8, most: u8, n: usize) -> bool
     ensures { result ≡ has (octets least most n) s.now }
 {
@@ -29,6 +31,7 @@ fn has_octets(s: &[u8], least: u8, most: u8, n: usize) -> bool
 }
 
 // How long a character is, if behind its first byte stands one from least to most, and then n tails.
+#[inline(always)]
 fn followed(rest: &[u8], least: u8, most: u8, n: usize) -> Option<usize>
     requires { n ≤ 2 }
     ensures { SomeIff result (has (octets least most n) rest.now ≡ true) (n + 2) }
@@ -36,15 +39,13 @@ fn followed(rest: &[u8], least: u8, most: u8, n: usize) -> Option<usize>
     has_octets(rest, least, most, n).then_some(n + 2)
 }
 
-// How long the character at the front is, if there is one. What may follow its first byte goes by the table of RFC 3629.
-fn character(s: &[u8]) -> Option<usize>
-    ensures { SomeIff result (0 < character s.now) (character s.now) }
+// How long the character is whose first byte is above 0x7F and before these, if there is one. What may follow its first byte goes by
+// the table of RFC 3629.
+fn wide(first: u8, rest: &[u8]) -> Option<usize>
+    requires { 0x7F < first }
+    ensures { SomeIff result (0 < character (first ∷ rest.now)) (character (first ∷ rest.now)) }
 {
-    let [first, rest @ ..] = s else {
-        return None;
-    };
-    match *first {
-        0x00..=0x7F => Some(1),
+    match first {
         0xC2..=0xDF => followed(rest, 0x80, 0xBF, 0),
         0xE0 => followed(rest, 0xA0, 0xBF, 1),
         0xE1..=0xEC => followed(rest, 0x80, 0xBF, 1),
@@ -62,8 +63,15 @@ pub fn valid_prefix(s: &[u8]) -> usize
     ensures { result ≡ valid s.now }
 {
     let mut len = 0;
-    while let Some(n) = character(&s[len..]) {
-        len += n;
+    while len < s.len() {
+        if s[len].is_ascii() {
+            len += 1;
+        } else {
+            match wide(s[len], &s[len + 1..]) {
+                Some(n) => len += n,
+                None => return len,
+            }
+        }
     }
     len
 }
@@ -108,6 +116,7 @@ pub fn move_to(s: &[u8], p: SourceLocation, to: usize) -> SourceLocation
 
 // A digit's value, if it is one in the base, as Rust's char::to_digit. Three functions ask this of a base, as to_digit does; a type
 // of the two bases that are used would be opened in each.
+#[inline(always)]
 fn to_digit(b: u8, base: u32) -> Option<u64>
     requires { (2 ≤ base) × (base ≤ 36) }
     ensures { SomeIff result (digit_of b < base) (digit_of b) }
@@ -116,6 +125,7 @@ fn to_digit(b: u8, base: u32) -> Option<u64>
 }
 
 // The number with one digit more behind it; none, once it is too large.
+#[inline(always)]
 fn add_digit(number: Option<u64>, base: u32, d: u64) -> Option<u64>
     requires { 1 ≤ base }
     ensures { result ≡ in_range (reached number * base + d) }
@@ -124,6 +134,7 @@ fn add_digit(number: Option<u64>, base: u32, d: u64) -> Option<u64>
 }
 
 // The number that the bytes say. A wrong byte behind one that is too large already is told first.
+#[inline]
 fn all_digits(s: &[u8], base: u32) -> Result<u64, ConversionError>
     requires { (2 ≤ base) × (base ≤ 36) }
     ensures { result ≡ digits base s.now 0 }

@@ -44,21 +44,18 @@ pub fn put_items<I: Items>(
 {
     let mut i = at;
     let mut item = first;
-    let mut done = Walked { walk: n, end: at };
+    let mut walk = n;
     loop {
-        let walk = items.put(s, i, item, done.walk);
+        walk = items.put(s, i, item, walk);
         let turn = turn_behind(s, i, item.at);
-        done = Walked {
-            walk,
-            end: turn.end,
-        };
+        let end = turn.end;
         let Some(next) = turn.next else {
-            return done;
+            return Walked { walk, end };
         };
         i = next;
         item = I::matched(&s[i..]);
         if !item.at.is_hit() {
-            return done;
+            return Walked { walk, end };
         }
     }
 }

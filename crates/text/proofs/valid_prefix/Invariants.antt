@@ -3,8 +3,8 @@ use Rattle.std.proofs.Common.{◌+◌, ◌-◌, ◌≤◌, ◌≡◌, length, dr
 use Rattle.meaning.specs.Utf8.{valid}
 use Rattle.text.proofs.valid_prefix.Given as goal
 
-abbrev pub invariant-loop-n : goal.invariant-loop-n
-invariant-loop-n l = (l.len ≤ length l.s) × (valid l.s ≡ l.len + valid (drop l.len l.s))
+abbrev pub invariant-loop-len : goal.invariant-loop-len
+invariant-loop-len l = (l.len ≤ length l.s) × (valid l.s ≡ l.len + valid (drop l.len l.s))
 
-abbrev pub decreases-loop-n : goal.decreases-loop-n
-decreases-loop-n l = length l.s - l.len
+abbrev pub decreases-loop-len : goal.decreases-loop-len
+decreases-loop-len l = length l.s - l.len

@@ -1,20 +1,9 @@
-use Rattle.std.proofs.Common.{arith}
-use Rattle.lexis.proofs.BlankTurns.{walk_start, walk_spaces, walk_other, walk_done, walk_comment, comment_some}
+use Rattle.std.proofs.Common.{rules, sym, ◌∙◌}
+use Rattle.lexis.proofs.BlankTurns.{none_empty, none_begins}
 use Rattle.lexis.proofs.blanks.blanks.Goals as goal
 
-pub loop-n-init : goal.loop-n-init
-loop-n-init c = walk_start
+pub returns-then-is_empty : goal.returns-then-is_empty
+returns-then-is_empty c = none_empty (search rules)
 
-pub returns-then-not-starts_with : goal.returns-then-not-starts_with
-returns-then-not-starts_with c = walk_other (walk_spaces c.loop-n.invariant c.run_of-n.ensures) c.if-not-starts_with.ensures.value
-
-pub returns-in-Missed : goal.returns-in-Missed
-returns-in-Missed c = walk_done (walk_spaces c.loop-n.invariant c.run_of-n.ensures) c.comment.ensures c.in-Missed.is
-
-pub loop-n-smaller : goal.loop-n-smaller
-loop-n-smaller c = let w = walk_spaces c.loop-n.invariant c.run_of-n.ensures in
-    let h = c.comment.ensures in
-    omega (arith, comment_some w h c.in-Took.is, (walk_comment w h c.in-Took.is).fits)
-
-pub loop-n-preserved : goal.loop-n-preserved
-loop-n-preserved c = walk_comment (walk_spaces c.loop-n.invariant c.run_of-n.ensures) c.comment.ensures c.in-Took.is
+pub returns-then-not-may_begin : goal.returns-then-not-may_begin
+returns-then-not-may_begin c = none_begins (search rules) (sym c.if-not-may_begin.true ∙ c.may_begin.ensures)

@@ -1,6 +1,6 @@
 use Rattle.lexis.proofs.TextTurns.{upto_none, upto_hit, upto_miss, upto_other, upto_end}
 use Rattle.lexis.proofs.texts.up_to.Goals as goal
-use Rattle.lexis.proofs.texts.up_to.Goals.{else-b-first-via-then-b-first+else-starts_with, else-b-first-via-else-b-first}
+use Rattle.lexis.proofs.texts.up_to.Goals.{else-s-i-via-then-s-i+else-starts_with, else-s-i-via-else-s-i}
 
 pub returns-in_default : goal.returns-in_default
 returns-in_default c = upto_none _ _ c.in_default.ensures.value
@@ -12,9 +12,9 @@ pub loop-i-preserved : goal.loop-i-preserved
 loop-i-preserved c =
     let v = c.loop-i.invariant in
     let h = c.loop-i-test.true in
-    elim c.else-b-first.branch [
-      | else-b-first-via-then-b-first+else-starts_with w ↦ upto_miss v w.if-starts_with.ensures.value h
-      | else-b-first-via-else-b-first w ↦ upto_other v c.in-Some.ensures.value h w.if-b-first.false
+    elim c.else-s-i.branch [
+      | else-s-i-via-then-s-i+else-starts_with w ↦ upto_miss v w.if-starts_with.ensures.value h
+      | else-s-i-via-else-s-i w ↦ upto_other v c.in-Some.ensures.value h w.if-s-i.false
     ]
 
 pub returns : goal.returns

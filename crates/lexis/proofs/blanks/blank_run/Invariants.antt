@@ -1,7 +1,7 @@
--- `blanks` meets its contract: what is left behind n gives the whole blank run.
+-- `blank_run` meets its contract: what is left behind n gives the whole blank run.
 use Rattle.std.proofs.Common.{◌-◌, length}
 use Rattle.lexis.proofs.BlankTurns.{SpacesNext}
-use Rattle.lexis.proofs.blanks.blanks.Given as goal
+use Rattle.lexis.proofs.blanks.blank_run.Given as goal
 
 abbrev pub invariant-loop-n : goal.invariant-loop-n
 invariant-loop-n l = SpacesNext l.s l.n
