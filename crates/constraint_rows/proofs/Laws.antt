@@ -8,6 +8,7 @@ use lib.ListN.{length, take, drop}
 use Rattle.meaning.specs.Peg.{taken}
 use Rattle.meaning.specs.Pdl.{constraint_list}
 use Rattle.meaning.specs.Walk.{parse_constraint_list}
+use Rattle.meaning.specs.Rows.{place_words, constraint_words}
 use Rattle.spans.specs.declared.Span.{Span}
 use Rattle.spans.specs.Answers.{Constrained, MatchedList, MatchedPart}
 use Rattle.grammar.specs.Limits.{draws_limits, took_inside}
@@ -15,8 +16,8 @@ use Rattle.meaning.specs.Tables.{Table, size, row, Lent}
 use Rattle.spans.specs.declared.Constraint.{Constraint}
 use Rattle.spans.specs.declared.Matched.{Matched}
 use Rattle.walk.specs.declared.Number.{Number}
-use Rattle.walk.specs.declared.kinds.ConstraintKind.{ConstraintKind}
 use Rattle.walk.specs.declared.Name.{Name}
+use Rattle.walk.specs.declared.rows.NumberWords.{NumberWords}
 use Rattle.walk.specs.declared.Walk.{Walk}
 use Rattle.walk.specs.declared.Door.TheVariants.{Write}
 use Rattle.walk.specs.State.{slot, counted, lend, after_number, At, Goes, same, Came, Knows, Put}
@@ -24,7 +25,8 @@ use Rattle.walk.specs.Steps.{tally, tally_is, wrote_none, wrote_then, wrote_in, 
 use Rattle.walk.specs.Doors.{put_asks, put_wrote, put_goes, stood}
 use Rattle.walk.specs.Lists.{Ready, GoesOne, GoesAll, found_drawn, found_some, found_in}
 use Rattle.walk.specs.PartLists.{list_in, list_first, list_ends}
-use Rattle.walk.specs.Terms.{integer_items, operand_number, span_name, operand_name, constraint_kind, words_of_constraint, InsideOperand}
+use Rattle.walk.specs.Terms.{integer_items, operand_number, span_name, operand_name, constraint_kind, name_words, words_of_number, words_of_constraint, InsideOperand}
+use Rattle.walk.specs.Kinds.{constraint_number}
 use Rattle.walk.specs.Insides.{InsideConstraint, constraint_inside}
 use Rattle.walk.specs.Sounds.{constraint_sized}
 use Rattle.constraint_rows.specs.Constraints.{constraint_form, row_words, row_end, none_item, own_items, Placed, GoesRow}
@@ -46,11 +48,12 @@ module _ {src : List ℕ} {at : ℕ} {c : Constraint} {v : Option Number} {n : W
       pub row_asks : length src < 2 ^ 64 → Knows b (slot Table.constraints)
       row_asks s = put_asks Table.constraints (at_on row_in (omega arith) cb.goes.at) (omega (arith, same_count, w.spare)) s
 
-      pub row_done : {r : Walk} {kind : ConstraintKind} {id tag : Name} {ws t t' : List ℕ} → id ≡ span_name at c.id → tag ≡ operand_name at c.value
-          → kind ≡ constraint_kind c.value → ws ≡ words_of_constraint kind a.here b.here id tag v → Put (slot Table.constraints) ws b r t t'
+      pub row_done : {r : Walk} {kind : ℕ} {said : NumberWords} {id tag : Name} {ws t t' : List ℕ} → id ≡ span_name at c.id → tag ≡ operand_name at c.value
+          → kind ≡ constraint_number (constraint_kind c.value) → said ≡ words_of_number v
+          → ws ≡ constraint_words kind (place_words a.here b.here) (name_words id) (name_words tag) said.value → Put (slot Table.constraints) ws b r t t'
           → GoesRow src at c n r (lend Table.constraints t) (lend Table.constraints t')
-      unfolding row_words
-      row_done {r} {kind} {id} {tag} {ws} {t} {t'} ei et ek ew p =
+      unfolding row_words words_of_constraint
+      row_done {r} {kind} {said} {id} {tag} {ws} {t} {t'} ei et ek ev ew p =
           record {
             wrote =
                 wrote_then (wrote_in (lend Table.constraints t) (wrote_then ca.goes.wrote cb.goes.wrote))
@@ -59,13 +62,13 @@ module _ {src : List ℕ} {at : ℕ} {c : Constraint} {v : Option Number} {n : W
           }
         where
           long : length ws ≡ size Table.constraints
-          long = ap length ew ∙ constraint_sized kind a.here b.here id tag v
+          long = ap length ew ∙ constraint_sized kind a.here b.here id tag said.value
 
           words : b.door ≡ Write → ws ≡ row_words src at c
           words e =
               let ea : a.door ≡ Write = sym cb.goes.wrote.door ∙ e in
               let en : n.door ≡ Write = sym ca.goes.wrote.door ∙ ea in
-              ew ∙ rw (ek, stood ca en, stood cb ea, ei, et, w.number)
+              ew ∙ rw (ek, ev, stood ca en, stood cb ea, ei, et, w.number)
 
 -- ---- one constraint of a list
 module _ {src : List ℕ} {at : ℕ} {m : Matched Constraint} {n : Walk} (w : Ready constraint_form src at m n) where

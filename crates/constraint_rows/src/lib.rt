@@ -10,6 +10,7 @@ ghost use Rattle.constraint_rows.specs.OptionalLists.{Begun, GoesPart};
 
 use spans::{Constraint, Matched, Span};
 use walk::lists::{Items, put_items};
+use walk::rows::NumberWords;
 use walk::{Number, Walk};
 
 // The row of a constraint whose spans are counted from `at`; v is its number, which was noted before.
@@ -31,7 +32,8 @@ pub fn put_row(
     let b = a.to(s, start + c.span.len);
     let id = walk::terms::span_name(at, c.id);
     let tag = walk::terms::operand_name(at, size, c.value);
-    let kind = walk::terms::constraint_kind(c.value);
+    let kind = walk::terms::constraint_kind(c.value) as u64;
+    let v = NumberWords::from(v).value;
     let row = walk::rows::constraint_row(kind, a.here, b.here, id, tag, v);
     b.put(walk::Table::Constraints, &row, t)
 }

@@ -4,7 +4,7 @@
 ghost use Rattle.std.specs.Prelude.{◌≡◌, ◌≤◌, length};
 ghost use Rattle.meaning.specs.Tables.{Table};
 ghost use Rattle.walk.specs.State.{lend, At};
-ghost use Rattle.walk.specs.Lending.{declared_in, Kept};
+ghost use Rattle.walk.specs.Lending.{four, declared_in, Kept};
 ghost use Rattle.declaration_rows.specs.Braces.{past_blanks};
 ghost use Rattle.declaration_rows.specs.Members.{past_comma, past_brace, members_of, Tagged, GoesTags, GoesFields, Membered, GoesMembers};
 ghost use Rattle.declaration_rows.specs.Declarations.{Ready, ReadyKind, Opened, GoesOne, GoesParts, Rowed, GoesRow};
@@ -16,6 +16,7 @@ use declarations::tests::test_declaration;
 use lexis::blanks::{blanks, next_literal, then_last_comma};
 use meaning::Match;
 use spans::{Header, Matched};
+use walk::rows::NumberWords;
 use walk::tables::Tables;
 use walk::{Walk, Walked};
 
@@ -155,7 +156,7 @@ fn put_row(s: &[u8], kind: Kind, n: Walk, x: Parts, declarations: &mut [u64]) ->
         last.here,
         head.id,
         head.other,
-        head.width,
+        NumberWords::from(head.width),
         first,
         count,
         list,
@@ -195,8 +196,7 @@ fn put_one(s: &[u8], at: usize, n: Walk, tables: &mut Tables) -> Walked
 }
 
 // All declarations behind j, up to the end of the source. The loop is no `for`: each starts behind the one before it.
-// Rust: parse_toplevel.
-pub fn put_declarations(s: &[u8], j: usize, n: Walk, tables: &mut Tables) -> Walk
+fn put_all(s: &[u8], j: usize, n: Walk, tables: &mut Tables) -> Walk
     requires { Begun s.now j n }
     ensures goes { GoesAll s.now j n result (declared_in tables.old) (declared_in tables.new) }
     ensures kept { Kept tables.old tables.new }
@@ -209,4 +209,30 @@ pub fn put_declarations(s: &[u8], j: usize, n: Walk, tables: &mut Tables) -> Wal
         m = one.walk;
     }
     m
+}
+
+// All declarations behind j. The tables that they have rows in come one by one, so that none is asked for comments: one of no words
+// stands for it.
+// Rust: parse_toplevel.
+pub fn put_declarations(
+    s: &[u8],
+    j: usize,
+    n: Walk,
+    declarations: &mut [u64],
+    fields: &mut [u64],
+    tags: &mut [u64],
+    constraints: &mut [u64],
+) -> Walk
+    requires { Begun s.now j n }
+    ensures { GoesAll s.now j n result (four declarations.old fields.old tags.old constraints.old)
+        (four declarations.new fields.new tags.new constraints.new) }
+{
+    let mut tables = Tables {
+        declarations,
+        fields,
+        tags,
+        constraints,
+        comments: &mut [],
+    };
+    put_all(s, j, n, &mut tables)
 }

@@ -9,6 +9,8 @@ use lib.ListN.{length, drop}
 use lib.Dec.{eqb}
 use Rattle.meaning.specs.Choice.{pick}
 use Rattle.meaning.specs.Rules.{Rule, is}
+use Rattle.meaning.specs.Rows.{place_words, field_words}
+use Rattle.meaning.specs.declared.SourceLocation.{SourceLocation}
 use Rattle.meaning.specs.Peg.{taken}
 use Rattle.meaning.specs.Forest.{Forest, nil, tree}
 use Rattle.meaning.specs.Pdl.{constraint_list}
@@ -24,14 +26,15 @@ use Rattle.spans.specs.Drawn.{draw_constraint, draw_condition, draw_desc, draw_f
 use Rattle.spans.specs.Answers.{MatchedPart, desc_list}
 use Rattle.walk.specs.declared.Described.{Described}
 use Rattle.walk.specs.declared.Number.{Number}
+use Rattle.walk.specs.declared.rows.FieldWords.{FieldWords}
 use Rattle.walk.specs.Kinds.{field_number}
 use Rattle.walk.specs.declared.Walk.{Walk}
 use Rattle.walk.specs.declared.Door.TheVariants.{Write}
 use Rattle.walk.specs.State.{slot, counted, lend, after_number, Wrote, At, Goes, same, Came, Knows, Put}
 use Rattle.walk.specs.Steps.{count_append, no_rows, wrote_none, wrote_then, wrote_in, wrote_as, at_on, goes_then, integer_goes, same_counts}
 use Rattle.walk.specs.Doors.{put_asks, put_wrote, put_goes, stood}
-use Rattle.walk.specs.Sounds.{field_sized}
-use Rattle.walk.specs.Terms.{integer_items, words_of_field}
+use Rattle.walk.specs.Sounds.{words_of_field_sized}
+use Rattle.walk.specs.Terms.{integer_items, name_words, pair_words, words_of_description, words_of_field}
 use Rattle.walk.specs.Insides.{constraint_inside}
 use Rattle.walk.specs.Lists.{Ready, GoesOne, found_some, found_in}
 use Rattle.constraint_rows.specs.Constraints.{Placed, GoesRow}
@@ -101,6 +104,15 @@ desc_goes d {src} {k} {n} {m} a e h = subst (λ (x : Walk). Goes (desc_items d) 
 -- the list that the code has is the description's
 pub group_as : {src : List ℕ} {at : ℕ} {x y : Option Span} {n r : Walk} {a b : Lent → Lent} → x ≡ y → GoesPart src at x n r a b → GoesPart src at y n r a b
 group_as {src} {at} {n = n} {r = r} {a = a} {b = b} e g = subst (λ (z : Option Span). GoesPart src at z n r a b) e g
+
+-- ---- the row: b and g are the constraints before and behind the group's, e those behind the condition's
+pub row_told : (d : Described) (cond : Option Constraint) (p q : SourceLocation) {w : FieldWords} {b g e b' g' e' first number : ℕ} {ws : List ℕ}
+    → w ≡ words_of_description d → b ≡ b' → g ≡ g' → e ≡ e' → first ≡ first_of b (g - b) → number ≡ cond_word cond e
+    → ws ≡ field_words w.kind (place_words p q) (name_words w.a) (name_words w.b) (name_words w.c) (pair_words w.na) (pair_words w.nb)
+    first (g - b) number
+    → ws ≡ words_of_field d.kind p q d.a d.b d.c d.na d.nb (first_of b' (g' - b')) (g' - b') (cond_word cond e')
+unfolding words_of_field
+row_told d cond p q ed eb eg ee ef en ew = ew ∙ rw (ed, ef, en, eb, eg, ee)
 
 -- ---- one field
 module _ {src : List ℕ} {at : ℕ} {f : Matched Field} {n : Walk} (w : Ready field_form src at f n) where
@@ -242,7 +254,7 @@ module _ {src : List ℕ} {at : ℕ} {f : Matched Field} {n : Walk} (w : Ready f
                   + field_count src at f + 1)
 
               long : length ws ≡ size Table.fields
-              long = ap length ew ∙ field_sized d.kind a.here e.here d.a d.b d.c d.na d.nb _ _ _
+              long = ap length ew ∙ words_of_field_sized a.here e.here d.kind d.a d.b d.c d.na d.nb _ _ _
 
               words : e.door ≡ Write → ws ≡ own
               words z =

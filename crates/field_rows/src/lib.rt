@@ -16,6 +16,7 @@ use ast::numbers;
 use spans::{Constraint, Field, Matched};
 use walk::kinds::FieldKind;
 use walk::lists::{Items, put_items};
+use walk::rows::FieldWords;
 use walk::{Described, Number, Walk, Walked};
 
 // The number of a condition, if there is one.
@@ -86,7 +87,7 @@ fn row_of(
     let number = row_number(cond, end.counted(walk::Table::Constraints));
     let p = start.here;
     let q = end.here;
-    walk::rows::field_row(d, p, q, first, count, number)
+    walk::rows::field_row(FieldWords::from(d), p, q, first, count, number)
 }
 
 // A list of fields, and the tables of their rows and of their constraints' rows.

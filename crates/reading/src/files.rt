@@ -90,5 +90,13 @@ pub fn put_file(s: &[u8], door: Door, tables: &mut Tables) -> Walk
     ensures kept { Kept tables.old tables.new }
 {
     let line = line_of(s);
-    declaration_rows::put_declarations(s, line.end, Walk::new(door), tables)
+    declaration_rows::put_declarations(
+        s,
+        line.end,
+        Walk::new(door),
+        tables.declarations,
+        tables.fields,
+        tables.tags,
+        tables.constraints,
+    )
 }

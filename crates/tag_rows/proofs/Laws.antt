@@ -9,6 +9,7 @@ use Rattle.meaning.specs.Rules.{Rule}
 use Rattle.meaning.specs.Peg.{taken}
 use Rattle.meaning.specs.Forest.{Forest}
 use Rattle.meaning.specs.Tables.{Table, row, Lent}
+use Rattle.meaning.specs.Rows.{place_words, tag_words}
 use Rattle.meaning.specs.Walk.{following}
 use Rattle.grammar.specs.Limits.{Limits, draws_limits, limits_left, limits_right}
 use Rattle.grammar.specs.Order.{From, kids_of}
@@ -24,11 +25,13 @@ use Rattle.spans.specs.Answers.{SoundTag}
 use Rattle.walk.specs.declared.Door.TheVariants.{Write}
 use Rattle.walk.specs.declared.Name.{Name}
 use Rattle.walk.specs.declared.Number.{Number}
+use Rattle.walk.specs.declared.rows.NumberWords.{NumberWords}
 use Rattle.walk.specs.declared.kinds.TagKind.{TagKind}
 use Rattle.walk.specs.declared.kinds.TagKind.TheVariants as kinds
 use Rattle.walk.specs.declared.Walk.{Walk}
+use Rattle.walk.specs.Kinds.{tag_number}
 use Rattle.walk.specs.Insides.{span_inside}
-use Rattle.walk.specs.Terms.{integer_items, span_name, words_of_tag, span_number}
+use Rattle.walk.specs.Terms.{integer_items, span_name, name_words, words_of_number, words_of_tag, span_number}
 use Rattle.walk.specs.Sounds.{tag_sized}
 use Rattle.walk.specs.State.{slot, counted, lend, after_number, At, Goes, same, Came, Knows, Put}
 use Rattle.walk.specs.Steps.{wrote_then, at_on, goes_none, goes_then, goes_in, goes_as, integer_goes}
@@ -50,21 +53,22 @@ module _ {src : List ℕ} {at len : ℕ} {id : Span} {n : Walk} (w : Placed src 
       pub row_asks : length src < 2 ^ 64 → Knows b (slot Table.tags)
       row_asks s = put_asks Table.tags cb.goes.at row_spare s
 
-      pub row_done : (kind : TagKind) (v e : Option Number) (inner : ℕ) {r : Walk} {name : Name} {ws t t' : List ℕ} → name ≡ span_name at id
-          → ws ≡ words_of_tag kind a.here b.here name v e inner → Put (slot Table.tags) ws b r t t'
+      pub row_done : (kind : TagKind) (v e : Option Number) (inner : ℕ) {r : Walk} {name : Name} {k : ℕ} {x y : NumberWords} {ws t t' : List ℕ}
+          → name ≡ span_name at id → k ≡ tag_number kind → x ≡ words_of_number v → y ≡ words_of_number e
+          → ws ≡ tag_words k (place_words a.here b.here) (name_words name) x.value y.value inner → Put (slot Table.tags) ws b r t t'
           → Goes (row Table.tags (row_words src at len kind id v e inner) ∷ []) src (at + len) n r (lend Table.tags t) (lend Table.tags t')
-      unfolding row_words
-      row_done kind v e inner {r} {name} {ws} {t} {t'} en ew p =
+      unfolding row_words words_of_tag
+      row_done kind v e inner {r} {name} {k} {x} {y} {ws} {t} {t'} en ek ex ey ew p =
           goes_then (goes_in (lend Table.tags t) ca.goes)
           (goes_then (goes_in (lend Table.tags t) cb.goes)
-          (put_goes Table.tags p (row_words src at len kind id v e inner) words (ap length ew ∙ tag_sized kind a.here b.here name v e inner)
+          (put_goes Table.tags p (row_words src at len kind id v e inner) words (ap length ew ∙ tag_sized k a.here b.here name x.value y.value inner)
           cb.goes.at row_spare))
         where
           words : b.door ≡ Write → ws ≡ row_words src at len kind id v e inner
           words q =
               let ea : a.door ≡ Write = sym cb.goes.wrote.door ∙ q in
               let eb : n.door ≡ Write = sym ca.goes.wrote.door ∙ ea in
-              ew ∙ rw (stood ca eb, stood cb ea, en)
+              ew ∙ rw (ek, ex, ey, stood ca eb, stood cb ea, en)
 
   -- a number is noted before
   pub noting : {x : Option Number} (y : Span) {m : Walk} → x ≡ span_number src at y → m ≡ after_number x n → (a : Lent → Lent)

@@ -11,6 +11,7 @@ use meaning::SourceLocation;
 use spans::{Matched, Span, Tag, TagOther, TagRange, TagValue};
 use walk::kinds::TagKind;
 use walk::lists::{Items, put_items};
+use walk::rows::NumberWords;
 use walk::{Door, Number, Walk, Walked};
 
 // The row of a tag of len bytes at `at`; its numbers were noted before.
@@ -33,7 +34,9 @@ fn put_row(
     let a = n.to(s, at);
     let b = a.to(s, at + len);
     let name = walk::terms::span_name(at, id);
-    let row = walk::rows::tag_row(kind, a.here, b.here, name, v, e, inner);
+    let v = NumberWords::from(v).value;
+    let e = NumberWords::from(e).value;
+    let row = walk::rows::tag_row(kind as u64, a.here, b.here, name, v, e, inner);
     b.put(walk::Table::Tags, &row, t)
 }
 

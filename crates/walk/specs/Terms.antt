@@ -13,6 +13,9 @@ use Rattle.spans.specs.declared.Target.{Target}
 use Rattle.spans.specs.declared.Target.TheVariants.{OfField, OfPayload, OfBody}
 use Rattle.walk.specs.declared.Name.{Name}
 use Rattle.walk.specs.declared.Number.{Number}
+use Rattle.walk.specs.declared.Described.{Described}
+use Rattle.walk.specs.declared.rows.NumberWords.{NumberWords}
+use Rattle.walk.specs.declared.rows.FieldWords.{FieldWords}
 use Rattle.walk.specs.declared.kinds.FieldKind.{FieldKind}
 use Rattle.walk.specs.declared.kinds.TagKind.{TagKind}
 use Rattle.walk.specs.declared.kinds.ConstraintKind.{ConstraintKind}
@@ -114,8 +117,18 @@ abbrev pub said_by : Option Number → ℕ
 said_by None = 0
 said_by (Some x) = value_of x.value
 
+abbrev pub words_of_number : Option Number → NumberWords
+words_of_number x = record { found = flag_of x; value = said_by x }
+
+abbrev pub pair_words : NumberWords → List ℕ
+pair_words w = w.found ∷ w.value ∷ []
+
 abbrev pub number_words : Option Number → List ℕ
-number_words x = flag_of x ∷ said_by x ∷ []
+number_words x = pair_words (words_of_number x)
+
+abbrev pub words_of_description : Described → FieldWords
+words_of_description d =
+    record { kind = field_number d.kind; a = d.a; b = d.b; c = d.c; na = words_of_number d.na; nb = words_of_number d.nb }
 
 unfoldable pub words_of_tag : TagKind → SourceLocation → SourceLocation → Name → Option Number → Option Number → ℕ → List ℕ
 words_of_tag kind p q id v e inner = tag_words (tag_number kind) (place_words p q) (name_words id) (said_by v) (said_by e) inner

@@ -23,6 +23,7 @@ pub mod terms;
 pub use ast::tables::Table;
 
 // A comma with the blanks around it.
+#[inline]
 fn comma(s: &[u8]) -> Match
     ensures { Reads comma s.now result }
 {
@@ -110,6 +111,7 @@ pub struct Described {
 }
 
 // What is bad about an integer, if there is one that does not convert.
+#[inline(always)]
 fn bad_number(x: Option<Number>) -> Option<Unconverted>
     ensures { result ≡ bad_number x }
 {
@@ -123,6 +125,7 @@ fn bad_number(x: Option<Number>) -> Option<Unconverted>
 
 // What the door does with row k of a table.
 #[tactic(auto, unfolding(crate::specs::State::left, meaning::specs::Tables::puts))]
+#[inline(always)]
 fn pass(door: Door, k: usize, row: &[u64], t: &mut [u64])
     ensures { t.new ≡ left door (length row.now) k (row.now ∷ []) t.old }
 {
@@ -150,6 +153,7 @@ impl Walk {
     }
 
     // The state after an integer, if there is one: the first bad one stays.
+    #[inline(always)]
     pub fn note(self, x: Option<Number>) -> Walk
         ensures { result ≡ after_number x self }
     {
@@ -160,6 +164,7 @@ impl Walk {
     }
 
     // A row comes to the door: it is counted, and written if the walk writes.
+    #[inline]
     pub fn put(self, table: Table, row: &[u64], t: &mut [u64]) -> Walk
         requires { Knows self (slot (meant table)) }
         ensures { Put (slot (meant table)) row.now self result t.old t.new }
@@ -172,6 +177,7 @@ impl Walk {
     }
 
     // How many rows of a table there are by now.
+    #[inline(always)]
     pub fn counted(self, table: Table) -> usize
         ensures { result ≡ counted (meant table) self }
     {
@@ -179,6 +185,7 @@ impl Walk {
     }
 
     // The same walk, which only counts.
+    #[inline(always)]
     pub fn counting(self) -> Walk
         ensures { result ≡ counting self }
     {
@@ -189,6 +196,7 @@ impl Walk {
     }
 
     // The walk comes to an offset of the source. Its place is moved only if rows are written.
+    #[inline(always)]
     pub fn to(self, s: &[u8], at: usize) -> Walk
         requires { At s.now at self }
         ensures { Came s.now at self result }

@@ -1,39 +1,81 @@
-// Rows from names and numbers, word by word, in the document's order, in which the parameters stand too. A row's two places come as
-// two: the walk is first at one and then at the other.
+// Rows from names and words, word by word, in the document's order, in which the parameters stand too. A row's two places come as
+// two: the walk is first at one and then at the other. Its kind and its numbers come as words, which may be any: the callers make them
+// of kinds and of integers.
 ghost use Rattle.std.specs.Prelude.{◌≡◌};
+ghost use Rattle.meaning.specs.Rows.{place_words, tag_words, constraint_words, field_words, declaration_words};
 ghost use Rattle.meaning.specs.Tables.{first_of};
-ghost use Rattle.walk.specs.Terms.{flag_of, said_by, words_of_tag, words_of_constraint, words_of_field, words_of_declaration};
+ghost use Rattle.walk.specs.Terms.{name_words, pair_words, words_of_number, words_of_description};
 
-use crate::kinds::{ConstraintKind, TagKind};
 use crate::{Described, Name, Number};
 use ast::numbers;
 use meaning::SourceLocation;
 
-// The two words of an integer that may be absent: whether it is there, and what it says.
-fn number_words(x: Option<Number>) -> (u64, u64)
-    ensures { result ≡ (flag_of x, said_by x) }
-{
-    match x {
-        None => (0, 0),
-        Some(x) => (1, text::value_of(x.value)),
+// The two words that a row has of an integer that may be absent: whether it is there, and what it says.
+#[derive(Clone, Copy)]
+pub struct NumberWords {
+    pub found: u64,
+    pub value: u64,
+}
+
+impl From<Option<Number>> for NumberWords {
+    ghost from_gives = { λ x w. w ≡ words_of_number x };
+
+    // An integer that is absent, or does not convert, says 0.
+    #[inline]
+    fn from(x: Option<Number>) -> NumberWords {
+        match x {
+            None => NumberWords { found: 0, value: 0 },
+            Some(x) => NumberWords {
+                found: 1,
+                value: text::value_of(x.value),
+            },
+        }
+    }
+}
+
+// The words of a field's row that its description settles.
+#[derive(Clone, Copy)]
+pub struct FieldWords {
+    pub kind: u64,
+    pub a: Name,
+    pub b: Name,
+    pub c: Name,
+    pub na: NumberWords,
+    pub nb: NumberWords,
+}
+
+impl From<Described> for FieldWords {
+    ghost from_gives = { λ d w. w ≡ words_of_description d };
+
+    // The words of a description.
+    #[inline]
+    fn from(d: Described) -> FieldWords {
+        FieldWords {
+            kind: d.kind as u64,
+            a: d.a,
+            b: d.b,
+            c: d.c,
+            na: NumberWords::from(d.na),
+            nb: NumberWords::from(d.nb),
+        }
     }
 }
 
 // A tag's row.
-#[tactic(auto, unfolding(crate::specs::Terms::words_of_tag))]
+#[inline]
 pub fn tag_row(
-    kind: TagKind,
+    kind: u64,
     p: SourceLocation,
     q: SourceLocation,
     id: Name,
-    v: Option<Number>,
-    e: Option<Number>,
+    v: u64,
+    e: u64,
     inner: usize,
 ) -> [u64; numbers::TAG_WORDS]
-    ensures { result ≡ words_of_tag kind p q id v e inner }
+    ensures { result ≡ tag_words kind (place_words p q) (name_words id) v e inner }
 {
     [
-        kind as u64,
+        kind,
         p.offset as u64,
         p.line as u64,
         p.column as u64,
@@ -42,26 +84,26 @@ pub fn tag_row(
         q.column as u64,
         id.offset as u64,
         id.len as u64,
-        number_words(v).1,
-        number_words(e).1,
+        v,
+        e,
         inner as u64,
     ]
 }
 
 // A constraint's row.
-#[tactic(auto, unfolding(crate::specs::Terms::words_of_constraint))]
+#[inline]
 pub fn constraint_row(
-    kind: ConstraintKind,
+    kind: u64,
     p: SourceLocation,
     q: SourceLocation,
     id: Name,
     tag: Name,
-    v: Option<Number>,
+    v: u64,
 ) -> [u64; numbers::CONSTRAINT_WORDS]
-    ensures { result ≡ words_of_constraint kind p q id tag v }
+    ensures { result ≡ constraint_words kind (place_words p q) (name_words id) (name_words tag) v }
 {
     [
-        kind as u64,
+        kind,
         p.offset as u64,
         p.line as u64,
         p.column as u64,
@@ -72,26 +114,25 @@ pub fn constraint_row(
         id.len as u64,
         tag.offset as u64,
         tag.len as u64,
-        number_words(v).1,
+        v,
     ]
 }
 
 // A field's row.
-#[tactic(auto, unfolding(crate::specs::Terms::words_of_field))]
+#[inline]
 pub fn field_row(
-    d: Described,
+    d: FieldWords,
     p: SourceLocation,
     q: SourceLocation,
     first: usize,
     count: usize,
     cond: usize,
 ) -> [u64; numbers::FIELD_WORDS]
-    ensures { result ≡ words_of_field d.kind p q d.a d.b d.c d.na d.nb first count cond }
+    ensures { result ≡ field_words d.kind (place_words p q) (name_words d.a) (name_words d.b) (name_words d.c)
+        (pair_words d.na) (pair_words d.nb) first count cond }
 {
-    let (flag_a, number_a) = number_words(d.na);
-    let (flag_b, number_b) = number_words(d.nb);
     [
-        d.kind as u64,
+        d.kind,
         p.offset as u64,
         p.line as u64,
         p.column as u64,
@@ -104,33 +145,33 @@ pub fn field_row(
         d.b.len as u64,
         d.c.offset as u64,
         d.c.len as u64,
-        flag_a,
-        number_a,
-        flag_b,
-        number_b,
+        d.na.found,
+        d.na.value,
+        d.nb.found,
+        d.nb.value,
         first as u64,
         count as u64,
         cond as u64,
     ]
 }
 
-// A declaration's row. The enum of its kinds stands with their words and heads, in a crate above, so it is told by number.
-#[tactic(auto, unfolding(crate::specs::Terms::words_of_declaration))]
+// A declaration's row.
+#[inline]
 pub fn declaration_row(
     kind: u64,
     p: SourceLocation,
     q: SourceLocation,
     id: Name,
     other: Name,
-    width: Option<Number>,
+    width: NumberWords,
     first: usize,
     count: usize,
     list: usize,
     listed: usize,
 ) -> [u64; numbers::DECLARATION_WORDS]
-    ensures { result ≡ words_of_declaration kind p q id other width first count list listed }
+    ensures { result ≡ declaration_words kind (place_words p q) (name_words id) (name_words other) (pair_words width)
+        first count list listed }
 {
-    let (flag, said) = number_words(width);
     [
         kind,
         p.offset as u64,
@@ -143,8 +184,8 @@ pub fn declaration_row(
         id.len as u64,
         other.offset as u64,
         other.len as u64,
-        flag,
-        said,
+        width.found,
+        width.value,
         first as u64,
         count as u64,
         list as u64,

@@ -1,4 +1,5 @@
-use Rattle.std.proofs.Common.{arith}
+use Rattle.std.proofs.Common.{arith, ap, ◌∙◌}
+use Rattle.walk.specs.Kinds.{constraint_number, constraint_number_is}
 use Rattle.constraint_rows.proofs.Laws.{end_ready, row_asks, row_done}
 use Rattle.constraint_rows.proofs.put_row.Goals as goal
 
@@ -9,5 +10,6 @@ pub put-requires : goal.put-requires
 put-requires c = row_asks c.requires c.to-a.ensures c.to-b.ensures (omega (arith, c.well_formed))
 
 pub returns : goal.returns
-returns c = row_done c.requires c.to-a.ensures c.to-b.ensures c.span_name-id.ensures c.operand_name-tag.ensures c.constraint_kind-kind.ensures
-    c.constraint_row-row.ensures c.put.ensures
+returns c = row_done c.requires c.to-a.ensures c.to-b.ensures c.span_name-id.ensures c.operand_name-tag.ensures
+    (constraint_number_is c.constraint_kind.result ∙ ap constraint_number c.constraint_kind.ensures)
+    c.from-v.ensures c.constraint_row-row.ensures c.put.ensures

@@ -1,6 +1,6 @@
 use Rattle.std.proofs.Common.{rules}
 use Rattle.declaration_rows.specs.ListLaws.{turn_start, turn_done, turn_ready, turn_less, turn_more}
-use Rattle.declaration_rows.proofs.put_declarations.Goals as goal
+use Rattle.declaration_rows.proofs.put_all.Goals as goal
 
 pub loop-at-init : goal.loop-at-init
 loop-at-init c = (search rules, turn_start _ c.requires c.past_blanks-at.ensures)
