@@ -75,8 +75,8 @@ abbrev pack : Outcome → meaning.Layout
 pack o = answered o.0 o.1.0 o.1.1
 
 -- a refusal at its place
-abbrev placing : ℕ → Result answer.Layout Refusal → Result answer.Layout Refused
-placing p (Ok l) = Ok l
+abbrev placing : {A : Type 0} → ℕ → Result A Refusal → Result A Refused
+placing p (Ok x) = Ok x
 placing p (Err e) = Err (record { refusal = e; place = p })
 
 abbrev unpack : meaning.Layout → Outcome
@@ -89,3 +89,11 @@ undone (Err e) ps cs =
 
 pub one_layout : (o p : Outcome) {z : meaning.Layout} → pack o ≡ z → pack p ≡ z → o ≡ p
 one_layout = one_outcome pack unpack (λ o. undone o.0 o.1.0 o.1.1)
+
+-- ---- nor one with a judgement
+judged_back : (r : Result Unit Refused) → placing (judgement r).place (outcome (judgement r).number tt) ≡ r
+judged_back (Ok x) = refl
+judged_back (Err e) = ap (placing e.place) (outcome_refused e.refusal tt)
+
+pub one_judgement : (r s : Result Unit Refused) {z : Verdict} → judgement r ≡ z → judgement s ≡ z → r ≡ s
+one_judgement = one_outcome judgement (λ v. placing v.place (outcome v.number tt)) judged_back

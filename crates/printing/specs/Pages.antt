@@ -1,5 +1,5 @@
 -- A page of bytes, of which the first stand there already, and what texts written behind them leave.
-use Rattle.std.specs.Prelude.{ℕ, ◌+◌, ◌≡◌, List, [], ◌∷◌, ltb, length, set}
+use Rattle.std.specs.Prelude.{ℕ, ◌+◌, ◌≤◌, ◌≡◌, List, [], ◌∷◌, ltb, length, set}
 use Rattle.std.proofs.Common.{ap, sym, ◌∙◌}
 use Rattle.meaning.specs.Choice.{pick}
 use Rattle.printing.specs.declared.pages.Page as lent
@@ -34,7 +34,16 @@ pub record Wrote (text : List ℕ) (before after : lent.Page) : Type 0 where
 pub wrote_settled : {text : List ℕ} {before p q : lent.Page} → Wrote text before p → Wrote text before q → (p.at ≡ q.at) × (p.bytes.now ≡ q.bytes.now)
 wrote_settled x y = (ap (λ (p : Page). p.used) (x.is ∙ sym y.is), ap (λ (p : Page). p.bytes) (x.is ∙ sym y.is))
 
--- and what holds on the way, in a loop that writes a whole: what is left to write gives the whole
+-- ---- the same of a slice and any place: where that is past the end of the slice, both stay
+pub record WroteAt (text : List ℕ) (at : ℕ) (before : List ℕ) (r : ℕ) (after : List ℕ) : Type 0 where
+  pub is : page r after ≡ wrote text (page at before)
+  pub fits : at ≤ length before → r ≤ length after
+
+pub wrote_at_settled : {text : List ℕ} {at : ℕ} {before : List ℕ} {r s : ℕ} {b c : List ℕ} → WroteAt text at before r b
+    → WroteAt text at before s c → (r ≡ s) × (b ≡ c)
+wrote_at_settled x y = (ap (λ (p : Page). p.used) (x.is ∙ sym y.is), ap (λ (p : Page). p.bytes) (x.is ∙ sym y.is))
+
+-- ---- what holds on the way, in a loop that writes a whole: what is left to write gives the whole
 pub record Left (rest whole : List ℕ) (before after : lent.Page) : Type 0 where
   pub gives : wrote rest (sheet after) ≡ wrote whole (sheet before)
   pub same_bytes : after.bytes.ghost_name ≡ before.bytes.ghost_name

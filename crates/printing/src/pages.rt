@@ -1,5 +1,5 @@
 // Lent pages, and bytes on them behind those that stand there. A full page takes no more.
-ghost use Rattle.std.specs.Prelude.{[], ◌∷◌, ◌≡◌, ◌≤◌, length, take};
+ghost use Rattle.std.specs.Prelude.{[], ◌∷◌, ◌≡◌, ◌≤◌, length, min, take};
 
 // A lent page, and the place where the next byte goes.
 #[derive(Drop)]
@@ -21,6 +21,19 @@ impl<'a> Page<'a> {
         Page { bytes, at: 0 }
     }
 
+    // A page on which so many bytes stand, as they were lent; where there are no more than that, it is full.
+    #[inline]
+    pub fn behind(bytes: &'a mut [u8], at: usize) -> Page<'a>
+        ensures same_bytes { result.bytes.ghost_name ≡ bytes.entry.ghost_name }
+        ensures as_lent { result.bytes.now ≡ bytes.old }
+        ensures filled { result.at ≡ min at (length bytes.old) }
+    {
+        Page {
+            at: at.min(bytes.len()),
+            bytes,
+        }
+    }
+
     // What stands there.
     pub fn written(&self) -> &[u8]
         ensures { result.now ≡ take self.now.at self.now.bytes.now }
@@ -29,6 +42,7 @@ impl<'a> Page<'a> {
     }
 
     // One byte.
+    #[inline(always)]
     pub fn put_byte(&mut self, b: u8)
         ensures { Wrote (b ∷ []) self.old self.new }
     {

@@ -23,6 +23,12 @@ entry source lines rest = line 83 (length source ∷ length lines ∷ []) ++ (so
 abbrev pub Stands : List ℕ → ℕ → Entry → Type 0
 Stands list at e = drop at list ≡ entry e.source.now e.lines.now (drop e.next list)
 
+-- ---- the place behind a byte, whichever it is; the end of the list stays
+pub record Behind (list : List ℕ) (at r : ℕ) : Type 0 where
+  pub from : at ≤ r
+  pub inside : r ≤ length list
+  pub next : at < length list → r ≡ at + 1
+
 -- ---- the end of a part that has LF behind it
 pub record Ends (list : List ℕ) (at bytes r : ℕ) : Type 0 where
   pub is : r ≡ at + bytes

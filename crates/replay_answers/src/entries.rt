@@ -1,7 +1,7 @@
 // The entries of the list. A place within it stays a number beside it, and no slice of the rest: an entry's line is compared from its
 // start to where its last number ends, and the tally says the place where a list is damaged.
 ghost use Rattle.std.specs.Prelude.{◌≤◌, ◌≡◌, false, length, IfSome};
-ghost use Rattle.replay_answers.specs.Entries.{over, heading, Ends, EntryAt};
+ghost use Rattle.replay_answers.specs.Entries.{over, heading, Behind, Ends, EntryAt};
 
 use crate::lines::is_line;
 use lexis::bytes::{Class, run_of};
@@ -38,7 +38,7 @@ pub fn head_end(list: &[u8]) -> usize
 // The place behind a byte, whichever it is; the list's end stays.
 fn behind(list: &[u8], at: usize) -> usize
     requires { at ≤ length list.now }
-    ensures { (at ≤ result) × (result ≤ length list.now) }
+    ensures { Behind list.now at result }
 {
     list.len().min(at + 1)
 }
