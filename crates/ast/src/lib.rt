@@ -16,11 +16,9 @@ pub fn put_row(t: &mut [u64], k: usize, row: &[u64])
     let size = row.len();
     if size > 0 && k < t.len() / size {
         let base = k * size;
-        // By index: `copy_from_slice` asks C for memmove, where the archive calls nothing but memcpy, and a `for` is compiled to a slower loop.
-        let mut i = 0;
-        while i < size {
+        // Not `copy_from_slice`: it asks C for memmove, where the archive calls nothing but memcpy.
+        for i in 0..size {
             t[base + i] = row[i];
-            i += 1;
         }
     }
 }

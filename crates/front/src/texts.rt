@@ -29,11 +29,9 @@ fn write_over(s: &[u8], t: &mut [u8])
     ensures { t.new ≡ over s.now t.old }
 {
     let n = s.len().min(t.len());
-    // By index, as the words of rows are written: the archive calls nothing but memcpy.
-    let mut i = 0;
-    while i < n {
+    // Not `copy_from_slice`, as where the words of a row are written: the archive calls nothing but memcpy.
+    for i in 0..n {
         t[i] = s[i];
-        i += 1;
     }
 }
 

@@ -10,19 +10,16 @@ loop-i-preserved c = let l = c.loop-i in
     let a = c.args in (
       search rules,
       (
-        search rules,
-        (
-          simp length-set l.invariant.1.1.0,
-          rw (l.invariant.1.1.1, add-one l.i) (paste-suc a.t.now (a.k * length a.row.now) a.row.now l.i 0 (omega arith) (omega arith)),
-        ),
+        simp length-set l.invariant.1.0,
+        rw (l.invariant.1.1, add-one l.i) (paste-suc a.t.now (a.k * length a.row.now) a.row.now l.i 0 (omega arith) (omega arith)),
       ),
     )
 
 pub returns-after-loop-i : goal.returns-after-loop-i
 returns-after-loop-i c = let l = c.loop-i in
     let a = c.args in
-    let e : l.i ≡ length a.row.now = omega arith in
-    l.invariant.1.1.1 ∙ rw e (put_paste _ a.k a.row.now a.t.now refl l.invariant.1.0)
+    let e : l.i ≡ length a.row.now = omega (arith, l.auto.i-end) in
+    l.invariant.1.1 ∙ rw e (put_paste _ a.k a.row.now a.t.now refl l.invariant.0)
 
 pub returns-else-size-gt0 : goal.returns-else-size-gt0
 returns-else-size-gt0 c =
