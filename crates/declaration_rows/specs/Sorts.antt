@@ -1,24 +1,28 @@
--- Items by the tables of their rows: which tables they write, and that every row has its table's size.
-use Rattle.std.specs.Prelude.{ℕ, ◌≡◌, Bool, true, false, length}
+-- Items by the tables of their rows: which tables they write, that every row has its table's size, and every integer one of the
+-- converter's reasons.
+use Rattle.std.specs.Prelude.{ℕ, ◌≡◌, Bool, true, false, length, Option, None, Some, Result, Ok, Err}
 use Rattle.std.proofs.Common.{arith}
 use Rattle.std.proofs.Math.Path.{refl}
 use mathlib.Core.List.{List, [], ◌∷◌, ◌++◌}
 use Rattle.meaning.specs.Choice.{pick}
 use Rattle.meaning.specs.Rules.{Rule, is}
 use Rattle.meaning.specs.Forest.{Forest, nil, tree}
+use Rattle.meaning.specs.declared.ConversionError.{ConversionError}
+use Rattle.meaning.specs.declared.ConversionError.TheVariants.{Empty, BadDigit, TooLarge}
 use Rattle.meaning.specs.Convert.{convert, reason_of}
-use Rattle.meaning.specs.Tables.{Table, size, Item, int, row, rows_of, count}
+use Rattle.meaning.specs.Tables.{Table, size, Item, int, row, rows_of, count, first_bad}
 use Rattle.meaning.specs.Walk.{Part, node, part, absent, following, each, text_of, number, numbers, value_part, constraint_number, constraint_row, parse_constraint_list, tag_row, parse_enum_value, parse_enum_range, parse_enum_other, parse_enum_tag, described, parse_field, parse_field_list}
+use Rattle.walk.specs.State.{error_at}
 
 -- integers, and rows of the tables that are ok
 pub data Sorted (ok : Table → Bool) : List Item → Type 0 where
   none : Sorted ok []
-  an_int : (p r : ℕ) {xs : List Item} → Sorted ok xs → Sorted ok (int p r ∷ xs)
+  an_int : (p : ℕ) (v : Result ℕ ConversionError) {xs : List Item} → Sorted ok xs → Sorted ok (int p (reason_of v) ∷ xs)
   a_row : (t : Table) {ws : List ℕ} {xs : List Item} → ok t ≡ true → length ws ≡ size t → Sorted ok xs → Sorted ok (row t ws ∷ xs)
 
 pub sorted-++ : {ok : Table → Bool} {xs ys : List Item} → Sorted ok xs → Sorted ok ys → Sorted ok (xs ++ ys)
 sorted-++ none b = b
-sorted-++ (an_int p r a) b = an_int p r (sorted-++ a b)
+sorted-++ (an_int p v a) b = an_int p v (sorted-++ a b)
 sorted-++ (a_row t n e a) b = a_row t n e (sorted-++ a b)
 
 pub sorted_pick : {ok : Table → Bool} (b : Bool) {xs ys : List Item} → Sorted ok xs → Sorted ok ys → Sorted ok (pick b xs ys)
@@ -33,7 +37,7 @@ sorted_each r f h (tree q s l k more) = sorted-++ (sorted_pick (is r q) (h (node
 -- ---- the parts of a declaration: rows of fields, tags and constraints
 module _ (ok : Table → Bool) (f : ok Table.fields ≡ true) (t : ok Table.tags ≡ true) (c : ok Table.constraints ≡ true) (src : List ℕ) where
   pub of_number : (p : Part) → Sorted ok (number src p)
-  of_number p = sorted_pick p.found (an_int p.start (reason_of (convert (text_of src p))) none) none
+  of_number p = sorted_pick p.found (an_int p.start (convert (text_of src p)) none) none
 
   of_numbers : (ps : List Part) → Sorted ok (numbers src ps)
   unfolding numbers
@@ -111,9 +115,23 @@ parts Table.comments = false
 pub no_declarations : {xs : List Item} → Sorted parts xs → count Table.declarations xs ≡ 0
 unfolding rows_of
 no_declarations none = refl
-no_declarations (an_int p r a) = no_declarations a
+no_declarations (an_int p v a) = no_declarations a
 no_declarations (a_row Table.declarations e z a) = absurd (let q : ◌≡◌ {A = ℕ} 0 1 = cc in omega arith)
 no_declarations (a_row Table.fields e z a) = no_declarations a
 no_declarations (a_row Table.tags e z a) = no_declarations a
 no_declarations (a_row Table.constraints e z a) = no_declarations a
 no_declarations (a_row Table.comments e z a) = absurd (let q : ◌≡◌ {A = ℕ} 0 1 = cc in omega arith)
+
+-- ---- the reason of the first bad integer is one of the converter's, or 0
+abbrev pub reason_at : Option ConversionError → ℕ
+reason_at None = 0
+reason_at (Some e) = reason_of (Err e)
+
+pub error_back : {ok : Table → Bool} {xs : List Item} → Sorted ok xs → reason_at (error_at (first_bad xs).reason) ≡ (first_bad xs).reason
+unfolding first_bad
+error_back none = refl
+error_back (an_int p (Ok n) a) = error_back a
+error_back (an_int p (Err Empty) a) = refl
+error_back (an_int p (Err BadDigit) a) = refl
+error_back (an_int p (Err TooLarge) a) = refl
+error_back (a_row t n e a) = error_back a

@@ -4,7 +4,7 @@ use Rattle.std.proofs.Common.{arith}
 use Rattle.meaning.specs.declared.ConversionError.TheVariants.{Empty, BadDigit, TooLarge}
 use Rattle.meaning.specs.Convert as converter
 use Rattle.meaning.specs.Choice.{pick}
-use Rattle.walk.specs.Settled.{error_of}
+use Rattle.meaning.specs.declared.ConversionError.{ConversionError}
 use Rattle.meaning.specs.Tables.{number}
 use Rattle.ast.specs.declared.tables.Table.{Table}
 use Rattle.ast.specs.declared.tables.Table.TheVariants.{Declarations, Fields, Tags, Constraints, Comments}
@@ -46,6 +46,10 @@ numbered (NotUtf8 p) h = omega arith
 numbered (NoMatch p) h = omega arith
 numbered (NotConverted p e) h = omega arith
 numbered (TooFewRows t n) h = omega arith
+
+-- ---- the error from its reason
+abbrev error_of : ℕ → ConversionError
+error_of n = pick (eqb n 1) Empty (pick (eqb n 2) BadDigit TooLarge)
 
 -- ---- the refusal from its number, its place and its reason
 abbrev pub refusal_of : ℕ → ℕ → ℕ → Refusal

@@ -7,21 +7,21 @@ use borrow.Author.Tests.{lt-ltb, le-ltb, eq-eqb, ne_eqb}
 use Rattle.std.proofs.Math.Dec.{ltb, eqb}
 use Rattle.meaning.specs.Utf8.{valid}
 use Rattle.meaning.specs.Peg.{run, bytewise, hit}
-use Rattle.meaning.specs.Forest.{Out, missed, took, outcome, eval, forest}
+use Rattle.meaning.specs.Forest.{Out, missed, took, outcome, eval, forest, clean}
 use Rattle.meaning.specs.Pdl.{file}
 use Rattle.meaning.specs.Tables.{Table, Bad, first_bad, Lent}
-use Rattle.meaning.specs.Walk.{items}
+use Rattle.meaning.specs.Rules.{Rule}
+use Rattle.meaning.specs.Walk.{part, items}
 use Rattle.meaning.specs.Reading.{refused, longest, unmatched, walked, parsed, reading}
 use Rattle.grammar.specs.Agree.{same}
 use Rattle.grammar.specs.Bytewise.{file_joined}
 use Rattle.text.specs.Utf8Laws.{valid_fits}
 use Rattle.walk.specs.declared.Door.TheVariants.{Count}
 use Rattle.walk.specs.declared.Walk.{Walk}
-use Rattle.walk.specs.declared.Unconverted.{Unconverted}
 use Rattle.meaning.specs.declared.ConversionError.{ConversionError}
 use Rattle.meaning.specs.declared.ConversionError.TheVariants.{Empty, BadDigit, TooLarge}
 use Rattle.meaning.specs.Convert.{reason_of}
-use Rattle.walk.specs.State.{counted, bad_as, fresh, left, lend, Wrote}
+use Rattle.walk.specs.State.{counted, error_at, bad_of, fresh, left, lend, Wrote}
 use Rattle.walk.specs.Lending.{four}
 use Rattle.declarations.specs.declared.files.FileMatch.{FileMatch}
 use Rattle.declarations.specs.Files.{Files, placed_unmatched}
@@ -29,6 +29,8 @@ use Rattle.comments.specs.Lex.{lexical, comment_count}
 use Rattle.reading.specs.declared.refusals.Refusal.{Refusal}
 use Rattle.reading.specs.declared.refusals.Refusal.TheVariants.{TooLong, NotUtf8, NoMatch, NotConverted}
 use Rattle.walk.specs.Totals.{Tabled}
+use Rattle.declaration_rows.specs.Sorts.{reason_at, error_back}
+use Rattle.reading.specs.Sorts.{of_toplevel}
 use Rattle.reading.specs.Sources.{Matched, whole, declared, declared_rows, declared_bad, lexed_rows}
 use Rattle.reading.specs.Surveys.{survey, surveyed, Surveyed}
 use Rattle.reading.specs.Outcomes.{lending}
@@ -105,20 +107,32 @@ error_numbered TooLarge h = omega arith
 -- a has the words before the walk over the declarations, b those behind it
 module _ (src : List ℕ) (a b : Lent) {n : Walk} (e : Tabled (declared src) Count n (four a.w1 a.w2 a.w3 a.w4) (four b.w1 b.w2 b.w3 b.w4))
     (q : b.w5 ≡ a.w5) where
-  bad_is : bad_as n.bad ≡ first_bad (items src (whole src))
+  abbrev first : Bad
+  first = first_bad (items src (whole src))
+
+  bad_is : bad_of n ≡ first
   bad_is = e.bad ∙ sym (declared_bad src)
+
+  -- the state's reason is one of the converter's, since that of each item is
+  error_known : reason_at (error_at first.reason) ≡ first.reason
+  error_known =
+      rw (declared_bad src) (error_back (of_toplevel src (part Rule.file (clean (whole src))).kids []))
+
+  told : (x : Option ConversionError) → error_at n.bad.reason ≡ x → ◌≡◌ {A = Bad} (record { place = n.bad.place; reason = reason_at x }) first
+  told x h =
+      ap (λ (y : Option ConversionError). record { place = n.bad.place; reason = reason_at y }) (sym h)
+      ∙ ap (λ (b : Bad). record { place = b.place; reason = reason_at (error_at b.reason) }) bad_is
+      ∙ ap (λ (r : ℕ). record { place = first.place; reason = r }) error_known
 
   tables_same : b ≡ a
   unfolding left
   tables_same = five (e.words a Table.declarations) (e.words a Table.fields) (e.words a Table.tags) (e.words a Table.constraints) q
 
-  pub bad_integer : {x : Unconverted} → n.bad ≡ Some x → Surveyed (walked src (whole src)) (Err (NotConverted x.place x.error)) a b
+  pub bad_integer : {x : ConversionError} → error_at n.bad.reason ≡ Some x → Surveyed (walked src (whole src)) (Err (NotConverted n.bad.place x)) a b
   unfolding walked
   bad_integer {x} h =
-      let told : bad_as (Some x) ≡ first_bad (items src (whole src)) = ap bad_as (sym h) ∙ bad_is in
-      let z : eqb (first_bad (items src (whole src))).reason 0 ≡ false =
-      ne_eqb _ _ (λ z. error_numbered x.error (ap (λ (y : Bad). y.reason) told ∙ z)) in
-      record { is = rw (z, sym told); same = tables_same }
+      let z : eqb first.reason 0 ≡ false = ne_eqb _ _ (λ z. error_numbered x (ap (λ (y : Bad). y.reason) (told (Some x) h) ∙ z)) in
+      record { is = rw (z, sym (told (Some x) h)); same = tables_same }
 
   -- o is the walk over the comments; p, r, s, t and k are the counts that the code has taken of both
   module _ (m : List ℕ) {o : Walk} (w : Wrote (lexical src) (fresh Count) o (lend Table.comments b.w5) (lend Table.comments m)) where
@@ -129,12 +143,12 @@ module _ (src : List ℕ) (a b : Lent) {n : Walk} (e : Tabled (declared src) Cou
     comments_are : counted Table.comments o ≡ comment_count src
     comments_are = omega (arith, w.counts Table.comments)
 
-    pub rows_needed : {p r s t k : ℕ} → Matched src → n.bad ≡ None → p ≡ counted Table.declarations n → r ≡ counted Table.fields n
+    pub rows_needed : {p r s t k : ℕ} → Matched src → error_at n.bad.reason ≡ None → p ≡ counted Table.declarations n → r ≡ counted Table.fields n
         → s ≡ counted Table.tags n → t ≡ counted Table.constraints n → k ≡ counted Table.comments o
         → Surveyed (walked src (whole src)) (Ok (p ∷ r ∷ s ∷ t ∷ k ∷ [])) a (lending b.w1 b.w2 b.w3 b.w4 m)
     unfolding walked
     rows_needed g h ep er es et ek =
-        let z : eqb (first_bad (items src (whole src))).reason 0 ≡ true = eq-eqb _ _ (ap (λ (y : Bad). y.reason) (sym bad_is ∙ ap bad_as h)) in
+        let z : eqb first.reason 0 ≡ true = eq-eqb _ _ (ap (λ (y : Bad). y.reason) (sym (told None h))) in
         record {
           is =
               rw (

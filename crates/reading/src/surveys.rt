@@ -21,10 +21,10 @@ fn survey_rows(s: &[u8], tables: &mut Tables) -> Result<Counts, Refusal>
     ensures same { SameTables tables.old tables.new }
 {
     let n = put_file(s, Door::Count, tables);
-    if let Some(bad) = n.bad {
+    if let Some(error) = n.bad.error() {
         return Err(Refusal::NotConverted {
-            place: bad.place,
-            error: bad.error,
+            place: n.bad.place,
+            error,
         });
     }
     let c = put_comments(s, Door::Count, tables.comments);

@@ -4,6 +4,7 @@ use Prim.Native.Nat.{ℕ, zero, suc, ◌+◌, ◌-◌, ◌≤◌, ◌<◌}
 use native.Mathlib.Omega.{arith}
 use mathlib.Core.Path.{◌≡◌, refl, ap, subst, sym, ◌∙◌}
 use mathlib.Core.List.{List, [], ◌∷◌}
+use borrow.Author.Tests.{eq-eqb, ne_eqb}
 use lib.ListN.{length, get_or, set, take, drop, length-set}
 use lib.Seq.{get_or-set_same, get_or-set_other}
 use Rattle.meaning.specs.declared.Match.{Match}
@@ -17,13 +18,14 @@ use Rattle.spans.specs.declared.Operand.{Operand}
 use Rattle.spans.specs.declared.ArraySize.{ArraySize}
 use Rattle.spans.specs.declared.Target.{Target}
 use Rattle.walk.specs.declared.Walk.{Walk}
+use Rattle.walk.specs.declared.Unconverted.{Unconverted}
 use Rattle.walk.specs.declared.Name.{Name}
 use Rattle.meaning.specs.declared.SourceLocation.{SourceLocation}
 use Rattle.meaning.specs.Places.{place_at}
 use Rattle.meaning.specs.Tables.{first_of}
 use Rattle.walk.specs.declared.Door.{Door}
 use Rattle.walk.specs.declared.Door.TheVariants.{Count, Write}
-use Rattle.walk.specs.State.{left, Wrote, Near, Stands, At, same, Came, Knows, Put}
+use Rattle.walk.specs.State.{worse, after_integer, left, Wrote, Near, Stands, At, same, Came, Knows, Put}
 use Rattle.walk.specs.Steps.{wrote_none, goes_none}
 use Rattle.walk.specs.Turns.{comma}
 use Rattle.walk.specs.Nexts.{Turned, next_from}
@@ -45,6 +47,21 @@ module _ (src : List ℕ) (i : ℕ) (m : Match) (w : i + taken m ≤ length src)
 
   pub turned : {k' : Match} → k ≡ k' → Turned src i m (record { end = i + l; next = next_from (i + l) k' })
   turned q = subst (λ (y : Match). Turned src i m (record { end = i + l; next = next_from (i + l) y })) q turned_to
+
+-- ---- noting
+module _ (n : Walk) (x : Unconverted) where
+  pub note_late : (n.bad.reason ≡ 0 → ⊥) → n ≡ after_integer x.place x.reason n
+  unfolding worse
+  note_late h = rw (ne_eqb n.bad.reason 0 h)
+
+  pub note_good : n.bad.reason ≡ 0 → x.reason ≡ 0 → n ≡ after_integer x.place x.reason n
+  unfolding worse
+  note_good h k = rw (eq-eqb n.bad.reason 0 h, eq-eqb x.reason 0 k)
+
+  pub note_bad : n.bad.reason ≡ 0 → (x.reason ≡ 0 → ⊥)
+      → ◌≡◌ {A = Walk} (record { door = n.door; counts = n.counts; bad = x; here = n.here }) (after_integer x.place x.reason n)
+  unfolding worse
+  note_bad h k = rw (eq-eqb n.bad.reason 0 h, ne_eqb x.reason 0 k)
 
 -- ---- parts, by their cases
 module _ (n : ℕ) where

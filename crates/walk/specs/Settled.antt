@@ -1,7 +1,7 @@
 -- What the records of the walk settle, from the same state over the same items: whether it writes, its counts, its first bad
 -- integer, and every word that is lent. They leave the place that it knows: `Came` settles it for a walk that writes, before
 -- each row; a walk that counts writes none, and nobody asks it for its place.
-use Rattle.std.specs.Prelude.{ℕ, zero, suc, ◌<◌, ◌≡◌, refl, List, Option, None, Some, Err, Bool, true, false, length, get_or, drop, eqb}
+use Rattle.std.specs.Prelude.{ℕ, zero, suc, ◌<◌, ◌≡◌, refl, List, Option, Bool, true, false, length, get_or, drop, eqb}
 use Rattle.std.proofs.Common.{arith, ap, ap₂, sym, ◌∙◌, eqb-true, ext_get_or}
 use Rattle.std.proofs.lemmas.Bool.{eqb-false}
 use Rattle.meaning.specs.declared.Match.{Match}
@@ -14,11 +14,7 @@ use Rattle.walk.specs.declared.Walk.{Walk}
 use Rattle.walk.specs.declared.Walked.{Walked}
 use Rattle.walk.specs.declared.Turn.{Turn}
 use Rattle.walk.specs.declared.Unconverted.{Unconverted}
-use Rattle.meaning.specs.Choice.{pick}
-use Rattle.meaning.specs.Convert.{reason_of}
-use Rattle.meaning.specs.declared.ConversionError.{ConversionError}
-use Rattle.meaning.specs.declared.ConversionError.TheVariants.{Empty, BadDigit, TooLarge}
-use Rattle.walk.specs.State.{slot, counted, bad_as, bad_of, Wrote, Came, Put}
+use Rattle.walk.specs.State.{slot, counted, bad_of, Wrote, Came, Put}
 use Rattle.walk.specs.Steps.{tally, tally_is}
 use Rattle.walk.specs.Doors.{stood}
 use Rattle.walk.specs.Totals.{Tabled}
@@ -33,29 +29,14 @@ pub record Alike (r s : Walk) (b c : Lent → Lent) : Type 0 where
   pub bad : bad_of r ≡ bad_of s
   pub words : (l : Lent) (t : Table) → lent t (b l) ≡ lent t (c l)
 
--- ---- what the meaning says of a bad integer settles it
-abbrev pub error_of : ℕ → ConversionError
-error_of n = pick (eqb n 1) Empty (pick (eqb n 2) BadDigit TooLarge)
-
-abbrev bad_back : Bad → Option Unconverted
-bad_back b = pick (eqb b.reason 0) None (Some (record { place = b.place; error = error_of b.reason }))
-
-bad_told : (x : Option Unconverted) → bad_back (bad_as x) ≡ x
-bad_told None = refl
-bad_told (Some x) = go x.error
-  where
-    go : (e : ConversionError) → bad_back (record { place = x.place; reason = reason_of (Err e) }) ≡ Some (record { place = x.place; error = e })
-    go Empty = refl
-    go BadDigit = refl
-    go TooLarge = refl
-
-same_bad : {x y : Option Unconverted} → bad_as x ≡ bad_as y → x ≡ y
-same_bad {x} {y} e = sym (bad_told x) ∙ ap bad_back e ∙ bad_told y
+-- ---- the words of a state settle it
+abbrev bad_back : Bad → Unconverted
+bad_back b = record { place = b.place; reason = b.reason }
 
 same_walk : {r s : Walk} → r.door ≡ s.door → r.counts ≡ s.counts → bad_of r ≡ bad_of s → r.here ≡ s.here → r ≡ s
 same_walk {r} {s} d c b h =
     ap₂ (λ (x : Door) (ks : List ℕ). record { door = x; counts = ks; bad = r.bad; here = r.here }) d c
-    ∙ ap₂ (λ (x : Option Unconverted) (p : SourceLocation). record { door = s.door; counts = s.counts; bad = x; here = p }) (same_bad b) h
+    ∙ ap₂ (λ (x : Bad) (p : SourceLocation). record { door = s.door; counts = s.counts; bad = bad_back x; here = p }) b h
 
 -- five counts are those of the tables
 five_counts : (a b : List ℕ) → length a ≡ 5 → length b ≡ 5 → ((t : Table) → get_or a (slot t) 0 ≡ get_or b (slot t) 0) → a ≡ b

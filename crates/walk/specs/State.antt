@@ -1,6 +1,5 @@
 -- The walk's state, and what the items that it meets do to it and to the tables lent to it.
-use Rattle.std.specs.Prelude.{ℕ, ◌+◌, ◌^◌, ◌≤◌, ◌<◌, ◌≡◌, List, [], ◌∷◌, length, get_or, eqb, Option, None, Some, Result, Ok, Err}
-use Rattle.std.specs.Option.{option_or}
+use Rattle.std.specs.Prelude.{ℕ, ◌+◌, ◌^◌, ◌≤◌, ◌<◌, ◌≡◌, List, [], ◌∷◌, length, get_or, eqb, Option, None, Some}
 use Rattle.meaning.specs.declared.SourceLocation.{SourceLocation}
 use Rattle.meaning.specs.Choice.{pick}
 use Rattle.meaning.specs.Places.{place_at}
@@ -8,6 +7,7 @@ use Rattle.meaning.specs.Tables.{Table, size, Item, int, row, rows_of, count, Ba
 use Rattle.walk.specs.declared.Door.{Door}
 use Rattle.walk.specs.declared.Door.TheVariants.{Count, Write}
 use Rattle.meaning.specs.declared.ConversionError.{ConversionError}
+use Rattle.meaning.specs.declared.ConversionError.TheVariants.{Empty, BadDigit, TooLarge}
 use Rattle.meaning.specs.Convert.{reason_of}
 use Rattle.walk.specs.declared.Walk.{Walk}
 use Rattle.walk.specs.declared.Number.{Number}
@@ -26,16 +26,11 @@ counted t n = get_or n.counts (slot t) 0
 
 -- nothing done yet
 abbrev pub fresh : Door → Walk
-fresh d = record { door = d; counts = 0 ∷ 0 ∷ 0 ∷ 0 ∷ 0 ∷ []; bad = None; here = record { offset = 0; line = 0; column = 0 } }
+fresh d = record { door = d; counts = 0 ∷ 0 ∷ 0 ∷ 0 ∷ 0 ∷ []; bad = record { place = 0; reason = 0 }; here = record { offset = 0; line = 0; column = 0 } }
 
 -- ---- the first bad integer stays
--- what the meaning says of one
-abbrev pub bad_as : Option Unconverted → Bad
-bad_as None = record { place = 0; reason = 0 }
-bad_as (Some x) = record { place = x.place; reason = reason_of (Err x.error) }
-
 abbrev pub bad_of : Walk → Bad
-bad_of n = bad_as n.bad
+bad_of n = record { place = n.bad.place; reason = n.bad.reason }
 
 unfoldable pub worse : ℕ → ℕ → Bad → Bad
 worse p r b = pick (eqb b.reason 0) (pick (eqb r 0) b (record { place = p; reason = r })) b
@@ -45,18 +40,24 @@ bads [] b = b
 bads (int p r ∷ xs) b = bads xs (worse p r b)
 bads (row t ws ∷ xs) b = bads xs b
 
--- what is bad about an integer that stands at p
-abbrev pub bad_value : ℕ → Result ℕ ConversionError → Option Unconverted
-bad_value p (Ok v) = None
-bad_value p (Err e) = Some (record { place = p; error = e })
+abbrev worst : ℕ → ℕ → Walk → Unconverted
+worst p r n = record { place = (worse p r (bad_of n)).place; reason = (worse p r (bad_of n)).reason }
 
-abbrev pub bad_number : Option Number → Option Unconverted
-bad_number None = None
-bad_number (Some x) = bad_value x.place x.value
+-- the state after an integer with this place and reason
+abbrev pub after_integer : ℕ → ℕ → Walk → Walk
+after_integer p r n = record { door = n.door; counts = n.counts; bad = worst p r n; here = n.here }
+
+abbrev worst_number : Option Number → Walk → Unconverted
+worst_number None n = n.bad
+worst_number (Some x) n = worst x.place (reason_of x.value) n
 
 -- the state after an integer, if there is one
 abbrev pub after_number : Option Number → Walk → Walk
-after_number x n = record { door = n.door; counts = n.counts; bad = option_or n.bad (bad_number x); here = n.here }
+after_number x n = record { door = n.door; counts = n.counts; bad = worst_number x n; here = n.here }
+
+-- the error of a reason's number; 0 is that of none
+abbrev pub error_at : ℕ → Option ConversionError
+error_at n = pick (eqb n 1) (Some Empty) (pick (eqb n 2) (Some BadDigit) (pick (eqb n 3) (Some TooLarge) None))
 
 -- the same walk, which only counts
 abbrev pub counting : Walk → Walk

@@ -1,6 +1,5 @@
 -- Laws of the walk's state: what items do one after another, a number, a step to another offset.
-use Rattle.std.specs.Prelude.{ℕ, zero, suc, ◌+◌, ◌≤◌, ◌≡◌, Bool, length, Option, None, Some, Result, Ok, Err}
-use Rattle.std.specs.Option.{option_or}
+use Rattle.std.specs.Prelude.{ℕ, zero, suc, ◌+◌, ◌≤◌, ◌≡◌, Bool, length, Option, None, Some}
 use Rattle.std.proofs.Common.{arith, ap₂, subst, sym, ◌∙◌, length-append}
 use Rattle.std.proofs.Math.Path.{refl, ap}
 use mathlib.Core.List.{List, [], ◌∷◌, ◌++◌}
@@ -14,12 +13,8 @@ use Rattle.walk.specs.declared.Door.{Door}
 use Rattle.walk.specs.declared.Door.TheVariants.{Count, Write}
 use Rattle.walk.specs.declared.Walk.{Walk}
 use Rattle.walk.specs.declared.Number.{Number}
-use Rattle.walk.specs.declared.Unconverted.{Unconverted}
-use Rattle.meaning.specs.declared.ConversionError.{ConversionError}
-use Rattle.meaning.specs.declared.ConversionError.TheVariants.{Empty, BadDigit, TooLarge}
-use Rattle.meaning.specs.Convert.{reason_of}
 use Rattle.walk.specs.Terms.{integer_items}
-use Rattle.walk.specs.State.{counted, bad_as, bad_of, worse, bads, bad_value, bad_number, after_number, counting, left, Wrote, Near, At, Goes, Tallied}
+use Rattle.walk.specs.State.{counted, bad_of, worse, bads, after_number, counting, left, Wrote, Near, At, Goes, Tallied}
 
 -- ---- items one after another
 rows_append : (t : Table) (xs ys : List Item) → rows_of t (xs ++ ys) ≡ rows_of t xs ++ rows_of t ys
@@ -112,26 +107,10 @@ goes_on e w h = record { wrote = h.wrote; at = at_on e w h.at }
 
 -- ---- a number
 -- the first bad one stays
-number_bad : (x : Option Number) (b : Option Unconverted) → bad_as (option_or b (bad_number x)) ≡ bads (integer_items x) (bad_as b)
-unfolding bads worse
-number_bad None None = refl
-number_bad None (Some b) = refl
-number_bad (Some x) None = go x.value
-  where
-    go : (v : Result ℕ ConversionError) → bad_as (bad_value x.place v) ≡ worse x.place (reason_of v) (bad_as None)
-    go (Ok v) = refl
-    go (Err Empty) = refl
-    go (Err BadDigit) = refl
-    go (Err TooLarge) = refl
-number_bad (Some x) (Some b) = go b.error
-  where
-    told : ConversionError → Bad
-    told e = record { place = b.place; reason = reason_of (Err e) }
-
-    go : (e : ConversionError) → told e ≡ worse x.place (reason_of x.value) (told e)
-    go Empty = refl
-    go BadDigit = refl
-    go TooLarge = refl
+number_bad : (x : Option Number) (n : Walk) → bad_of (after_number x n) ≡ bads (integer_items x) (bad_of n)
+unfolding bads
+number_bad None n = refl
+number_bad (Some x) n = refl
 
 module _ (t : Table) where
   number_rows : (x : Option Number) → rows_of t (integer_items x) ≡ []
@@ -149,7 +128,7 @@ module _ (x : Option Number) where
         door = refl;
         sized = refl;
         counts = λ t. omega (arith, no_rows t x);
-        bad = number_bad x n.bad;
+        bad = number_bad x n;
         words = λ l t.
             left_none n.door (size t) (counted t n) (lent t (a l))
             ∙ ap (λ (rs : List (List ℕ)). left n.door (size t) (counted t n) rs (lent t (a l))) (sym (number_rows t x));

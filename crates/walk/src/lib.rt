@@ -7,7 +7,7 @@ ghost use Rattle.meaning.specs.Peg.{taken};
 ghost use Rattle.ast.specs.Tables.{meant};
 ghost use Rattle.walk.specs.Turns.{comma};
 ghost use Rattle.walk.specs.Nexts.{Turned};
-ghost use Rattle.walk.specs.State.{slot, counted, fresh, bad_number, after_number, counting, left, Knows, Put, At, Came};
+ghost use Rattle.walk.specs.State.{slot, counted, fresh, error_at, after_integer, after_number, counting, left, Knows, Put, At, Came};
 
 use crate::kinds::FieldKind;
 use lexis::blanks::then_blanks;
@@ -61,11 +61,26 @@ pub enum Door {
     Write,
 }
 
-// An integer of the source that does not convert: where it starts, and why.
+// The first integer that does not convert: where it starts, and the number of the reason, which is 0 where all convert. They are
+// two words, and no Option of a place and an error: a walk may begin at any, and each step promises what becomes of them.
 #[derive(Clone, Copy)]
 pub struct Unconverted {
     pub place: usize,
-    pub error: ConversionError,
+    pub reason: u64,
+}
+
+impl Unconverted {
+    // Why it does not convert, if that is one of the converter's reasons.
+    pub fn error(self) -> Option<ConversionError>
+        ensures { result ≡ error_at self.reason }
+    {
+        match self.reason {
+            1 => Some(ConversionError::Empty),
+            2 => Some(ConversionError::BadDigit),
+            3 => Some(ConversionError::TooLarge),
+            _ => None,
+        }
+    }
 }
 
 // What is done with rows, how many each table has, the first integer that did not convert, and the place that the walk has come
@@ -74,7 +89,7 @@ pub struct Unconverted {
 pub struct Walk {
     pub door: Door,
     pub counts: [usize; 5],
-    pub bad: Option<Unconverted>,
+    pub bad: Unconverted,
     pub here: SourceLocation,
 }
 
@@ -110,19 +125,6 @@ pub struct Described {
     pub nb: Option<Number>,
 }
 
-// What is bad about an integer, if there is one that does not convert.
-#[inline(always)]
-fn bad_number(x: Option<Number>) -> Option<Unconverted>
-    ensures { result ≡ bad_number x }
-{
-    let x = x?;
-    let error = x.value.err()?;
-    Some(Unconverted {
-        place: x.place,
-        error,
-    })
-}
-
 // What the door does with row k of a table.
 #[tactic(auto, unfolding(crate::specs::State::left, meaning::specs::Tables::puts))]
 #[inline(always)]
@@ -143,7 +145,10 @@ impl Walk {
         Walk {
             door,
             counts: [0; 5],
-            bad: None,
+            bad: Unconverted {
+                place: 0,
+                reason: 0,
+            },
             here: SourceLocation {
                 offset: 0,
                 line: 0,
@@ -152,14 +157,31 @@ impl Walk {
         }
     }
 
-    // The state after an integer, if there is one: the first bad one stays.
+    // The state after an integer, of any place and any reason: the first bad one stays.
+    #[inline(always)]
+    pub fn note_integer(self, x: Unconverted) -> Walk
+        ensures { result ≡ after_integer x.place x.reason self }
+    {
+        if self.bad.reason != 0 {
+            return self;
+        }
+        if x.reason == 0 {
+            return self;
+        }
+        Walk { bad: x, ..self }
+    }
+
+    // The state after an integer, if there is one.
     #[inline(always)]
     pub fn note(self, x: Option<Number>) -> Walk
         ensures { result ≡ after_number x self }
     {
-        Walk {
-            bad: self.bad.or(bad_number(x)),
-            ..self
+        match x {
+            None => self,
+            Some(x) => self.note_integer(Unconverted {
+                place: x.place,
+                reason: text::reason_of(x.value),
+            }),
         }
     }
 

@@ -1,5 +1,6 @@
 use Rattle.std.proofs.Common.{ℕ, ◌+◌, arith, subst, sym}
 use Rattle.walk.specs.State.{At, Came}
+use Rattle.walk.specs.Lists.{found_in}
 use Rattle.field_rows.proofs.Laws.{group_as, desc_ready, condition_inside, grows, condition_stands, end_ready, put_ready, field_done}
 use Rattle.field_rows.proofs.RowsItems.put.Goals as goal
 
@@ -15,6 +16,9 @@ put_condition-h-requires c = condition_stands c.requires c.describe-d.ensures c.
     c.to-a.ensures (group_as c.group_of.ensures c.put_part-g.ensures)
 
 -- and where it ends
+pub overflow_add-at : goal.overflow_add-at
+overflow_add-at c = omega (arith, found_in c.requires.found, c.taken.ensures)
+
 pub to-e-requires : goal.to-e-requires
 to-e-requires c = subst (λ (i : ℕ). At c.args.s.now (c.args.at + i) c.put_condition-h.result) (sym c.taken.ensures)
     (end_ready c.requires c.describe-d.ensures c.condition_number-v.ensures c.note.ensures c.note_desc.ensures c.to-a.ensures
