@@ -66,7 +66,7 @@ head_count src at h t =
 
 number_sorted : (x : Option Number) → Sorted parts (integer_items x)
 number_sorted None = none
-number_sorted (Some x) = an_int x.place x.value none
+number_sorted (Some x) = an_int _ _ none
 
 head_sorted : (src : List ℕ) (at : ℕ) (h : Header) → Sorted parts (head_items src at h)
 head_sorted src at h =

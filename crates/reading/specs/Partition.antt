@@ -25,7 +25,7 @@ same_bad ys (a_comment n a) = same_bad ys a
 no_comments : {ys : List Item} → Sorted others ys → rows_of Table.comments ys ≡ []
 unfolding rows_of
 no_comments none = refl
-no_comments (an_int p v a) = no_comments a
+no_comments (an_int p r a) = no_comments a
 no_comments (a_row Table.declarations n e a) = no_comments a
 no_comments (a_row Table.fields n e a) = no_comments a
 no_comments (a_row Table.tags n e a) = no_comments a
@@ -64,7 +64,7 @@ same_size t u e = by_number u ∙ ap size_at (sym (eqb-true (number t) (number u
 sorted_sized : (t : Table) {xs : List Item} → Sorted others xs → Sized (size t) (rows_of t xs)
 unfolding rows_of Sized
 sorted_sized t none = tt
-sorted_sized t (an_int p v a) = sorted_sized t a
+sorted_sized t (an_int p r a) = sorted_sized t a
 sorted_sized t (a_row u {ws} {xs} n e a) = sized_pick (eqb (number t) (number u)) (size t) ws (rows_of t xs) (λ h. e ∙ same_size t u h) (sorted_sized t a)
 
 pub sized : (t : Table) {xs ys : List Item} → Commented xs → Sorted others ys → Sized (size t) (rows_of t (xs ++ ys))

@@ -8,7 +8,7 @@ use Rattle.meaning.specs.Rules.{Rule, is}
 use Rattle.meaning.specs.Forest.{Forest, nil, tree}
 use Rattle.meaning.specs.Tables.{Table, size, Item, row, count, first_of}
 use Rattle.meaning.specs.Walk.{Part, node, part, following, each, optional, parse_constraint_list, parse_enum_tag, parse_field_list, kinds, kind_in, parse_declaration, parse_kind, parse_toplevel, comments}
-use Rattle.declaration_rows.specs.Sorts.{Sorted, none, a_row, sorted-++, sorted_each, of_number, of_constraints, of_enum_tag, of_fields}
+use Rattle.declaration_rows.specs.Sorts.{Sorted, Told, no_item, an_item, sorted, told-++, told_each, told_number, told_constraints, told_enum_tag, told_fields}
 
 -- every table but the comments'
 abbrev pub others : Table → Bool
@@ -30,9 +30,9 @@ module _ (src : List ℕ) where
   two true a c d e ws vs = refl
   two false a c d e ws vs = refl
 
-  of_declaration : (xs : List Item) (kind : ℕ) (p : Part) → Sorted others (parse_declaration src xs kind p)
+  told_declaration : (xs : List Item) (kind : ℕ) (p : Part) → Told others (parse_declaration src xs kind p)
   unfolding parse_declaration
-  of_declaration xs kind p =
+  told_declaration xs kind p =
       let id = part Rule.identifier (following p.kids) in
       let parent = part Rule.identifier id.next in
       let width = part Rule.integer parent.next in
@@ -45,26 +45,29 @@ module _ (src : List ℕ) where
       let own = pick tags.found Table.tags Table.fields in
       let n = count own (ts ++ fs) in
       let m = count Table.constraints cs in
-      sorted-++
-      (sorted-++
-      (sorted-++ (sorted-++ (of_number others refl refl refl src width) (of_constraints others refl refl refl src header.kids))
-      (sorted_each Rule.enum_tag (λ q. parse_enum_tag src q) (of_enum_tag others refl refl refl src) tags.kids))
-      (of_fields others refl refl refl src (part Rule.field_list tags.next).kids (xs ++ cs)))
-      (a_row Table.declarations refl
+      told-++
+      (told-++
+      (told-++ (told-++ (told_number others refl refl refl src width) (told_constraints others refl refl refl src header.kids))
+      (told_each Rule.enum_tag (λ q. parse_enum_tag src q) (told_enum_tag others refl refl refl src) tags.kids))
+      (told_fields others refl refl refl src (part Rule.field_list tags.next).kids (xs ++ cs)))
+      (an_item Table.declarations refl
       (ap (λ (k : ℕ). suc (suc (suc (suc (suc (suc (suc (suc (suc k)))))))))
       (two function.found (function.start + 1) (function.len - 2) parent.start parent.len
       (optional src width) (first_of (count own xs) n ∷ n ∷ first_of (count Table.constraints xs) m ∷ m ∷ [])))
-      none)
+      no_item)
 
-  of_kind : (xs : List Item) (k : ℕ) (p : Part) → Sorted others (parse_kind src xs k p)
-  of_kind xs zero p = none
-  of_kind xs (suc k) p = of_declaration xs (suc k) p
+  told_kind : (xs : List Item) (k : ℕ) (p : Part) → Told others (parse_kind src xs k p)
+  told_kind xs zero p = no_item
+  told_kind xs (suc k) p = told_declaration xs (suc k) p
+
+  pub told_toplevel : (w : Forest) (xs : List Item) → Told others (parse_toplevel src xs w)
+  unfolding parse_toplevel
+  told_toplevel nil xs = no_item
+  told_toplevel (tree r s l k more) xs =
+      told-++ (told_kind xs (kind_in kinds r 1) (node s l k more)) (told_toplevel more (xs ++ parse_kind src xs (kind_in kinds r 1) (node s l k more)))
 
   pub of_toplevel : (w : Forest) (xs : List Item) → Sorted others (parse_toplevel src xs w)
-  unfolding parse_toplevel
-  of_toplevel nil xs = none
-  of_toplevel (tree r s l k more) xs =
-      sorted-++ (of_kind xs (kind_in kinds r 1) (node s l k more)) (of_toplevel more (xs ++ parse_kind src xs (kind_in kinds r 1) (node s l k more)))
+  of_toplevel w xs = sorted (told_toplevel w xs)
 
 -- ---- the comments of a forest
 commented-++ : {xs ys : List Item} → Commented xs → Commented ys → Commented (xs ++ ys)

@@ -30,7 +30,7 @@ use Rattle.reading.specs.declared.refusals.Refusal.{Refusal}
 use Rattle.reading.specs.declared.refusals.Refusal.TheVariants.{TooLong, NotUtf8, NoMatch, NotConverted}
 use Rattle.walk.specs.Totals.{Tabled}
 use Rattle.declaration_rows.specs.Sorts.{reason_at, error_back}
-use Rattle.reading.specs.Sorts.{of_toplevel}
+use Rattle.reading.specs.Sorts.{told_toplevel}
 use Rattle.reading.specs.Sources.{Matched, whole, declared, declared_rows, declared_bad, lexed_rows}
 use Rattle.reading.specs.Surveys.{survey, surveyed, Surveyed}
 use Rattle.reading.specs.Outcomes.{lending}
@@ -116,7 +116,7 @@ module _ (src : List ℕ) (a b : Lent) {n : Walk} (e : Tabled (declared src) Cou
   -- the state's reason is one of the converter's, since that of each item is
   error_known : reason_at (error_at first.reason) ≡ first.reason
   error_known =
-      rw (declared_bad src) (error_back (of_toplevel src (part Rule.file (clean (whole src))).kids []))
+      rw (declared_bad src) (error_back (told_toplevel src (part Rule.file (clean (whole src))).kids []))
 
   told : (x : Option ConversionError) → error_at n.bad.reason ≡ x → ◌≡◌ {A = Bad} (record { place = n.bad.place; reason = reason_at x }) first
   told x h =

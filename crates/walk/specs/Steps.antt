@@ -13,8 +13,9 @@ use Rattle.walk.specs.declared.Door.{Door}
 use Rattle.walk.specs.declared.Door.TheVariants.{Count, Write}
 use Rattle.walk.specs.declared.Walk.{Walk}
 use Rattle.walk.specs.declared.Number.{Number}
+use Rattle.meaning.specs.Convert.{reason_of}
 use Rattle.walk.specs.Terms.{integer_items}
-use Rattle.walk.specs.State.{counted, bad_of, worse, bads, after_number, counting, left, Wrote, Near, At, Goes, Tallied}
+use Rattle.walk.specs.State.{counted, bad_of, worse, bads, after_integer, after_number, counting, left, Wrote, Near, At, Goes, Tallied}
 
 -- ---- items one after another
 rows_append : (t : Table) (xs ys : List Item) → rows_of t (xs ++ ys) ≡ rows_of t xs ++ rows_of t ys
@@ -105,12 +106,37 @@ pub goes_on : {xs : List Item} {src : List ℕ} {j k : ℕ} {n r : Walk} {a b : 
     → Goes xs src k n r a b
 goes_on e w h = record { wrote = h.wrote; at = at_on e w h.at }
 
--- ---- a number
--- the first bad one stays
-number_bad : (x : Option Number) (n : Walk) → bad_of (after_number x n) ≡ bads (integer_items x) (bad_of n)
-unfolding bads
-number_bad None n = refl
-number_bad (Some x) n = refl
+-- ---- an integer
+-- of any place and any reason: the first bad one stays, and nothing moves
+module _ (p r : ℕ) where
+  bad_kept : (n : Walk) → bad_of (after_integer p r n) ≡ bads (int p r ∷ []) (bad_of n)
+  unfolding bads
+  bad_kept n = refl
+
+  int_wrote : (n : Walk) (a : Lent → Lent) → Wrote (int p r ∷ []) n (after_integer p r n) a a
+  unfolding rows_of
+  int_wrote n a =
+      record { door = refl; sized = refl; counts = λ t. omega arith; bad = bad_kept n; words = λ l t. left_none n.door (size t) (counted t n) (lent t (a l)) }
+
+  pub int_goes : {src : List ℕ} {k : ℕ} {n m : Walk} (a : Lent → Lent) → m ≡ after_integer p r n → At src k n → Goes (int p r ∷ []) src k n m a a
+  int_goes {src} {k} {n} {m} a e h =
+      subst (λ (z : Walk). Goes (int p r ∷ []) src k n z a a) (sym e)
+      (record { wrote = int_wrote n a; at = record { within = h.within; sized = h.sized; few = h.few; near = h.near } })
+
+-- one that converts changes nothing, whatever its place
+pub int_good : (p : ℕ) (n : Walk) → after_integer p 0 n ≡ n
+unfolding worse
+int_good p n = go (eqb n.bad.reason 0)
+  where
+    go : (z : Bool)
+        → ◌≡◌ {A = Walk} (record {
+          door = n.door;
+          counts = n.counts;
+          bad = record { place = (pick z (bad_of n) (bad_of n)).place; reason = (pick z (bad_of n) (bad_of n)).reason };
+          here = n.here;
+        }) n
+    go true = refl
+    go false = refl
 
 module _ (t : Table) where
   number_rows : (x : Option Number) → rows_of t (integer_items x) ≡ []
@@ -121,25 +147,20 @@ module _ (t : Table) where
   pub no_rows : (x : Option Number) → count t (integer_items x) ≡ 0
   no_rows x = ap length (number_rows x)
 
-module _ (x : Option Number) where
-  note_wrote : (n : Walk) (a : Lent → Lent) → Wrote (integer_items x) n (after_number x n) a a
-  note_wrote n a =
-      record {
-        door = refl;
-        sized = refl;
-        counts = λ t. omega (arith, no_rows t x);
-        bad = number_bad x n;
-        words = λ l t.
-            left_none n.door (size t) (counted t n) (lent t (a l))
-            ∙ ap (λ (rs : List (List ℕ)). left n.door (size t) (counted t n) rs (lent t (a l))) (sym (number_rows t x));
-      }
+-- of the source, if there is one
+number_bad : (x : Option Number) (n : Walk) → bad_of (after_number x n) ≡ bads (integer_items x) (bad_of n)
+unfolding bads
+number_bad None n = refl
+number_bad (Some x) n = bad_kept x.place (reason_of x.value) n
 
-  -- it moves nothing: m is the state after it
-  pub integer_goes : {src : List ℕ} {k : ℕ} {n m : Walk} (a : Lent → Lent) → m ≡ after_number x n → At src k n
-      → Goes (integer_items x) src k n m a a
-  integer_goes {src} {k} {n} {m} a e h =
-      subst (λ (z : Walk). Goes (integer_items x) src k n z a a) (sym e)
-      (record { wrote = note_wrote n a; at = record { within = h.within; sized = h.sized; few = h.few; near = h.near } })
+note_wrote : (x : Option Number) (n : Walk) (a : Lent → Lent) → Wrote (integer_items x) n (after_number x n) a a
+note_wrote None n a = wrote_none n a
+note_wrote (Some x) n a = int_wrote x.place (reason_of x.value) n a
+
+pub integer_goes : (x : Option Number) {src : List ℕ} {k : ℕ} {n m : Walk} (a : Lent → Lent) → m ≡ after_number x n → At src k n
+    → Goes (integer_items x) src k n m a a
+integer_goes None {src} {k} {n} {m} a e h = subst (λ (z : Walk). Goes [] src k n z a a) (sym e) (goes_none a h)
+integer_goes (Some x) a e h = int_goes x.place (reason_of x.value) a e h
 
 -- nothing was met: no count is another
 pub same_counts : {n r : Walk} {a b : Lent → Lent} → Wrote [] n r a b → (t : Table) → counted t r ≡ counted t n

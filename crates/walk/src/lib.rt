@@ -84,13 +84,13 @@ impl Unconverted {
 }
 
 // What is done with rows, how many each table has, the first integer that did not convert, and the place that the walk has come
-// to, if it writes.
+// to, if it writes. The door stands last: a byte ahead of the words would have them copied at odd offsets.
 #[derive(Clone, Copy)]
 pub struct Walk {
-    pub door: Door,
     pub counts: [usize; 5],
     pub bad: Unconverted,
     pub here: SourceLocation,
+    pub door: Door,
 }
 
 // A walk over a list: its state behind the list, and where the last item ends.
