@@ -114,9 +114,9 @@ def letters(token: Token) -> Iterator[Change]:
 
 
 def conditions(source: str, body: List[Token], i: int) -> Iterator[Change]:
-    """The condition of an `if`, a guard or a `while`, denied."""
+    """The condition of an `if`, a guard or a `while`, denied. A guard of `matches!` ends with its call."""
     end = i + 1
-    while body[end].text not in ("{", "=>"):
+    while body[end].text not in ("{", "=>", ")"):
         end = closing(body, end) + 1 if body[end].text in OPENING else end + 1
     start, stop = body[i + 1].start, body[end - 1].end
     asked = source[start:stop]
