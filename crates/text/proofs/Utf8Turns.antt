@@ -14,7 +14,7 @@ use Rattle.std.proofs.Common.{add-one}
 use Rattle.std.specs.Prelude.{◌&&◌, Option, Some, None, SomeIff}
 use Rattle.std.specs.List.{list_all}
 use Rattle.text.specs.ChoiceLaws.{both_false}
-use Rattle.text.specs.Utf8Laws.{ascends, top, by_form, by_none, character_fits, valid_fits, valid_step, valid_stop, valid_ascii}
+use Rattle.text.specs.Utf8Laws.{ascends, top, by_form, by_none, character_fits, character_none, valid_step, valid_stop, valid_ascii}
 
 -- ---- the tails at the front
 both_and : (b c : Bool) → (b && c) ≡ both b c
@@ -35,6 +35,11 @@ tails_short n s h = lt-leb n (length s) h ∙ sym (none n s h)
     none (suc n) (x ∷ s) h = rw (none n s (omega arith)) (both_false (holds tail x))
 
 -- ---- the character at the front
+-- where nothing stands there is none
+pub character_end : (s : List ℕ) → length s ≤ 0 → 0 < character s → ⊥
+character_end [] h l = omega (arith, character_none)
+character_end (x ∷ s) h l = omega arith
+
 -- of the length c of a character, whose form is told by b
 either_way : (b : Bool) (n c : ℕ) → c ≡ pick b (suc n) 0 → (found : Option ℕ) → SomeIff found (b ≡ true) (suc n) → SomeIff found (0 < c) c
 either_way true n c e None h = absurd (h refl)
@@ -67,7 +72,9 @@ not_positive (suc n) f = absurd (f (omega arith))
 
 -- nothing is left
 pub valid_end : (s : List ℕ) (i : ℕ) → length s ≤ i → valid s ≡ i + valid (drop i s) → i ≡ valid s
-valid_end s i h q = omega (arith, valid_fits (drop i s), length-drop i s)
+valid_end s i h q =
+    let none : 0 < character (drop i s) → ⊥ = character_end (drop i s) (omega (arith, length-drop i s)) in
+    omega (arith, valid_stop (drop i s) (not_positive _ none))
 
 module _ (s : List ℕ) (i : ℕ) (h : i < length s) (q : valid s ≡ i + valid (drop i s)) where
   -- a byte of ASCII stands there
